@@ -1,0 +1,11 @@
+pub mod Prices
+pub mod Turned
+pub mod OneToNine
+pub mod Faults
+pub mod Refusals
+pub mod Meaning
+pub mod Touch
+pub mod Improve
+pub mod BetterOf
+pub mod LegInvariant
+pub mod Legs
