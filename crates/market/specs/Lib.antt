@@ -9,3 +9,6 @@ pub mod Improve
 pub mod BetterOf
 pub mod LegInvariant
 pub mod Legs
+pub mod Cube
+pub mod History
+pub mod Range

@@ -8,3 +8,5 @@ pub mod touch;
 pub mod improve;
 pub mod better_of;
 pub mod legs;
+pub mod cube;
+pub mod range;

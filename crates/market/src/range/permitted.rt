@@ -1,0 +1,139 @@
+// The range that a market permits an order.
+use super::PermittedRange;
+use super::TurnedQuote;
+use crate::market::Market;
+use crate::quote::Quote;
+use crate::refusal::RangeRefusal;
+use crate::side::Side;
+ghost use mathlib.Core.Bool.{true};
+ghost use mathlib.Core.Path.{_≡_};
+ghost use lib.Signed.{leZ};
+ghost use Rattle.std.specs.Options.{mapped};
+ghost use Rattle.std.specs.declared.option.Option.the-variants.{Some};
+ghost use Rattle.market.specs.Meaning.{Bounded};
+ghost use Rattle.market.specs.Prices.{within};
+ghost use Rattle.market.specs.Range.{turned-quote, permitted, range-from, range-faced, range-answer, range-prices, lowest-price, highest-price};
+ghost use Rattle.market.specs.Turned.{turned};
+
+const MOST: i64 = 40_000_000;
+
+fn turned_price(side: Side, price: Option<i64>) -> Option<i64>
+    requires { ⌜ within 50000000 price ≡ true ⌝ }
+    ensures value { λ r. ⌜ r ≡ mapped (turned side) price ⌝ }
+    ensures bound { λ r. ⌜ within 50000000 r ≡ true ⌝ }
+{
+    match price {
+        None => None,
+        Some(z) => Some(side.turn(z)),
+    }
+}
+
+// What a quote means to an order of a side.
+fn turn_quote(side: Side, quote: Quote) -> TurnedQuote
+    requires { ⌜ Bounded quote ⌝ }
+    ensures value { λ r. ⌜ r ≡ turned-quote side quote ⌝ }
+    ensures floor { λ r. ⌜ within 50000000 (r .floor) ≡ true ⌝ }
+    ensures contra { λ r. ⌜ within 50000000 (r .contra) ≡ true ⌝ }
+{
+    let bid = turned_price(side, quote.bid);
+    let offer = turned_price(side, quote.offer);
+    match side {
+        Side::Buy => TurnedQuote { floor: bid, contra: offer },
+        Side::Sell => TurnedQuote { floor: offer, contra: bid },
+    }
+}
+
+// The range between a floor and the lower of a limit and a contra price, all of them turned.
+fn range_from(side: Side, limit: i64, floor: i64, contra: i64) -> Result<PermittedRange, RangeRefusal>
+    requires limit { ⌜ within 50000000 (Some limit) ≡ true ⌝ }
+    requires floor { ⌜ within 50000000 (Some floor) ≡ true ⌝ }
+    requires contra { ⌜ within 50000000 (Some contra) ≡ true ⌝ }
+    ensures { λ r. ⌜ range-answer r ≡ range-from side limit floor contra ⌝ }
+{
+    let initiating = limit.min(contra);
+    if initiating < floor {
+        return Err(RangeRefusal::InitiatingBelowFloor);
+    }
+    Ok(PermittedRange { side, floor, contra, initiating })
+}
+
+// What a market shows to an order of this side, on turned prices.
+pub fn turned_quote<M: Market>(market: &M, side: Side) -> TurnedQuote
+    ensures value { λ r. ⌜ r ≡ turned-quote side (M·Market .meaning .shows (M·Market .position (now (market .entry)))) ⌝ }
+    ensures floor { λ r. ⌜ within 50000000 (r .floor) ≡ true ⌝ }
+    ensures contra { λ r. ⌜ within 50000000 (r .contra) ≡ true ⌝ }
+{
+    turn_quote(side, market.shown())
+}
+
+// The range of an order with this turned limit, if both sides show a price.
+fn range_faced(side: Side, limit: i64, quote: TurnedQuote) -> Result<PermittedRange, RangeRefusal>
+    requires limit { ⌜ within 50000000 (Some limit) ≡ true ⌝ }
+    requires floor { ⌜ within 50000000 (quote .floor) ≡ true ⌝ }
+    requires contra { ⌜ within 50000000 (quote .contra) ≡ true ⌝ }
+    ensures { λ r. ⌜ range-answer r ≡ range-faced side limit (quote .floor) (quote .contra) ⌝ }
+{
+    match (quote.floor, quote.contra) {
+        (Some(floor), Some(contra)) => range_from(side, limit, floor, contra),
+        _ => Err(RangeRefusal::SideShowsNoPrice),
+    }
+}
+
+fn in_limits(price: i64) -> bool
+    ensures { λ r. ⌜ r ≡ within 40000000 (Some price) ⌝ }
+{
+    -MOST <= price && price <= MOST
+}
+
+// The range that a market permits an order of this side with this limit price, which may be any number.
+pub fn permitted_range<M: Market>(market: &M, side: Side, limit: i64) -> Result<PermittedRange, RangeRefusal>
+    ensures answer { λ r. ⌜ range-answer r ≡ permitted side limit (M·Market .meaning .shows (M·Market .position (now (market .entry)))) ⌝ }
+{
+    if !in_limits(limit) {
+        return Err(RangeRefusal::PriceOutsideLimits);
+    }
+    range_faced(side, side.turn(limit), turned_quote(market, side))
+}
+
+impl PermittedRange {
+    // The lowest permitted price, as the strategy is priced and not turned.
+    pub fn lowest(&self) -> i64
+        ensures { λ r. ⌜ r ≡ lowest-price (range-prices (now (self .entry))) ⌝ }
+    {
+        match self.side {
+            Side::Buy => self.floor,
+            Side::Sell => -self.initiating,
+        }
+    }
+
+    // The highest permitted price, not turned.
+    pub fn highest(&self) -> i64
+        ensures { λ r. ⌜ r ≡ highest-price (range-prices (now (self .entry))) ⌝ }
+    {
+        match self.side {
+            Side::Buy => self.initiating,
+            Side::Sell => -self.floor,
+        }
+    }
+
+    // The contra price, not turned.
+    pub fn contra_price(&self) -> i64
+        ensures { λ r. ⌜ r ≡ turned (now (self .entry) .side) (now (self .entry) .contra) ⌝ }
+    {
+        self.side.turn(self.contra)
+    }
+
+    // The initiating price, not turned.
+    pub fn initiating_price(&self) -> i64
+        ensures { λ r. ⌜ r ≡ turned (now (self .entry) .side) (now (self .entry) .initiating) ⌝ }
+    {
+        self.side.turn(self.initiating)
+    }
+
+    // The floor, not turned.
+    pub fn floor_price(&self) -> i64
+        ensures { λ r. ⌜ r ≡ turned (now (self .entry) .side) (now (self .entry) .floor) ⌝ }
+    {
+        self.side.turn(self.floor)
+    }
+}
