@@ -12,3 +12,4 @@ pub mod Legs
 pub mod Cube
 pub mod History
 pub mod Range
+pub mod RangeLaws

@@ -13,6 +13,7 @@ ghost use Rattle.std.specs.declared.option.Option.the-variants.{Some};
 ghost use Rattle.market.specs.Meaning.{Bounded};
 ghost use Rattle.market.specs.Prices.{within};
 ghost use Rattle.market.specs.Range.{turned-quote, permitted, range-from, range-faced, range-answer, range-prices, lowest-price, highest-price};
+ghost use Rattle.market.specs.RangeLaws.{RangeLaws};
 ghost use Rattle.market.specs.Turned.{turned};
 
 const MOST: i64 = 40_000_000;
@@ -88,6 +89,7 @@ fn in_limits(price: i64) -> bool
 // The range that a market permits an order of this side with this limit price, which may be any number.
 pub fn permitted_range<M: Market>(market: &M, side: Side, limit: i64) -> Result<PermittedRange, RangeRefusal>
     ensures answer { λ r. ⌜ range-answer r ≡ permitted side limit (M·Market .meaning .shows (M·Market .position (now (market .entry)))) ⌝ }
+    ensures laws { λ r. ⌜ RangeLaws side limit (M·Market .meaning .shows (M·Market .position (now (market .entry)))) (range-answer r) ⌝ }
 {
     if !in_limits(limit) {
         return Err(RangeRefusal::PriceOutsideLimits);
