@@ -59,7 +59,7 @@ abbrev pub Book-and-legs-permit-402-to-404 : Type 0
 Book-and-legs-permit-402-to-404 =
     (legs-meaning .shows (after legs-meaning (bought-and-sold 1 1) (leg-at 1 500 502 ∷ (leg-at 2 97 99 ∷ []))) ≡ quoted-at 401 405)
     × (permitted Buy (pos 405) (cube-meaning .shows (after cube-meaning (cube-start (bought-and-sold 1 1)) derived-ticks))
-        ≡ Ok (record { side = Buy; floor = pos 402; contra = pos 404; initiating = pos 404 }))
+    ≡ Ok (record { side = Buy; floor = pos 402; contra = pos 404; initiating = pos 404 }))
 
 -- The list.
 abbrev pub Worked-figures : Type 0

@@ -108,7 +108,7 @@ sum-of-with w (Some l) ls = refl
 pub legs-sum-is : (w : QuoteSide) (s : Legs) → legs-sum w (legs-of s) ≡ sum-with w (Some (s .first)) (sum-with w (Some (s .second)) (sum-with w (s .third) (sum-with w (s .fourth) (Some (pos 0)))))
 legs-sum-is w s =
     ap (λ rest. plus (leg-part w (s .first)) (plus (leg-part w (s .second)) rest))
-      (sum-of-with w (s .third) (with-leg (s .fourth) []) ∙ ap (sum-with w (s .third)) (sum-of-with w (s .fourth) []))
+    (sum-of-with w (s .third) (with-leg (s .fourth) []) ∙ ap (sum-with w (s .third)) (sum-of-with w (s .fourth) []))
 
 pub legs-sum-within : (w : QuoteSide) (s : Legs) → within 36000000 (legs-sum w (legs-of s)) ≡ true
 legs-sum-within w s = ap (within 36000000) (legs-sum-is w s) ∙ sum-with-within w 27000000 (Some (s .first)) _ (s .«first_ok») (second-within w s)

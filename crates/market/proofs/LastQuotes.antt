@@ -29,15 +29,15 @@ length-quoted : (n : ℕ) (q : LegQuote) (ls : List Leg) → length (quote-leg n
 length-quoted n q [] = refl
 length-quoted n q (l ∷ ls) =
     elim (eqb n 1) as (λ b. length (cond b (quoted q l ∷ ls) (l ∷ quote-leg (n - 1) q ls)) ≡ suc (length ls)) [
-      true ↦ refl
-    | false ↦ ap suc (length-quoted (n - 1) q ls)
+      | true ↦ refl
+      | false ↦ ap suc (length-quoted (n - 1) q ls)
     ]
 
 length-next : (ls : List Leg) (t : LegTick) → length (legs-next ls t) ≡ length ls
 length-next ls t =
     elim (isOk (legs-answer ls t)) as (λ b. length (cond b (quote-leg (t .leg) (t .quote) ls) ls) ≡ length ls) [
-      true ↦ length-quoted (t .leg) (t .quote) ls
-    | false ↦ refl
+      | true ↦ length-quoted (t .leg) (t .quote) ls
+      | false ↦ refl
     ]
 
 -- a tick that leg n does not take leaves its quotes, and one that it takes is the oldest of them
@@ -111,8 +111,8 @@ legs-more count ls t ts e = go (isOk (tick-answer count t)) refl
         let one = one-takes count 1 ls t ts h known in
         let number : suc (t .leg) - 1 ≡ t .leg = omega arith in
         ap (λ b. legs-from count 1 (cond b (quote-leg (t .leg) (t .quote) ls) ls) ts) (answers ∙ h)
-          ∙ ap (λ n. legs-from count 1 (quote-leg n (t .quote) ls) ts) (sym number)
-          ∙ sym one
+        ∙ ap (λ n. legs-from count 1 (quote-leg n (t .quote) ls) ts) (sym number)
+        ∙ sym one
     go false h =
         let none = none-take count 1 ls t ts (λ k m. and-right (eqb (t .leg) k) (isOk (tick-answer count t)) h) in
         ap (λ b. legs-from count 1 (cond b (quote-leg (t .leg) (t .quote) ls) ls) ts) (answers ∙ h) ∙ sym none
@@ -140,4 +140,4 @@ same-ratio count n (l ∷ ls) ts = ap (min (l .ratio)) (same-ratio count (suc n)
 pub shows-last-quotes : (ls : List Leg) (ts : CubeTicks) → cube-meaning .shows (after cube-meaning (cube-start ls) ts) ≡ cube-quote (last-book ts) (last-legs ls ts)
 shows-last-quotes ls ts =
     ap (cube-meaning .shows) (after-is nothing-shown 1 (smallest-ratio ls) ls ts)
-      ∙ ap (λ n. better-quote (improved-quote 1 (last-book ts)) (improved-quote n (legs-quote (last-legs ls ts)))) (sym (same-ratio (length ls) 1 ls ts))
+    ∙ ap (λ n. better-quote (improved-quote 1 (last-book ts)) (improved-quote n (legs-quote (last-legs ls ts)))) (sym (same-ratio (length ls) 1 ls ts))

@@ -25,19 +25,24 @@ use Rattle.market.specs.Turned.{turned}
 use Rattle.market.proofs.Bounds.{turned-within}
 
 below : (side : Side) (limit floor contra : ℤ) → (limit <ℤ floor) ⊎ (contra <ℤ floor) → refused-with (range-from side limit floor contra) ≡ Some 15
-below side limit floor contra h = 
+below side limit floor contra h =
     let low : ltZ (minZ limit contra) floor ≡ true = grind (arith, ints) in
     rw low
 
 above : (side : Side) (limit floor contra : ℤ) → floor ≤ℤ limit → floor ≤ℤ contra → Gives (range-from side limit floor contra) side floor contra limit
 above side limit floor contra h k =
     let high : ltZ (minZ limit contra) floor ≡ false = grind (arith, ints) in
-    rw high (refl, refl, refl, record {
-      from-floor = grind (arith, ints);
-      to-limit = grind (arith, ints);
-      to-contra = grind (arith, ints);
-      one-of-both = elim (ltZ contra limit) as (λ b. (cond b contra limit ≡ limit) ⊎ (cond b contra limit ≡ contra)) [ true ↦ inr refl | false ↦ inl refl ];
-    })
+    rw high (
+      refl,
+      refl,
+      refl,
+      record {
+        from-floor = grind (arith, ints);
+        to-limit = grind (arith, ints);
+        to-contra = grind (arith, ints);
+        one-of-both = elim (ltZ contra limit) as (λ b. (cond b contra limit ≡ limit) ⊎ (cond b contra limit ≡ contra)) [ true ↦ inr refl | false ↦ inl refl ];
+      },
+    )
 
 -- inside its limits a limit price is judged by what is shown
 judged : (side : Side) (limit : ℤ) (q : Quote) → within 40000000 (Some limit) ≡ true → permitted side limit q ≡ range-faced side (turned side limit) (turned-quote side q .floor) (turned-quote side q .contra)
@@ -67,7 +72,7 @@ sell-faced limit (Some f) None = refl
 sell-faced limit (Some f) (Some c) = sell-from limit f c
 
 mirrors : (limit : ℤ) (q : Quote) → permitted Sell limit q ≡ as-sell (permitted Buy (negℤ limit) (mirrored q))
-mirrors limit q = 
+mirrors limit q =
     let judge : Bool → Result RangePrices RangeRefusal = λ b. as-sell (cond b (range-faced Buy (negℤ limit) (mirrored q .bid) (mirrored q .offer)) (Err PriceOutsideLimits)) in
     by (within 40000000 (Some limit)) ∙ ap judge (sym (turned-within 40000000 Sell limit))
   where

@@ -104,12 +104,12 @@ legs-quote ls = record { bid = legs-sum Bid ls; offer = legs-sum Offer ls }
 abbrev pub tick-answer : ℕ → LegTick → Result (Unit {0}) Fault
 tick-answer count t =
     cond (leb 1 (t .leg) && leb (t .leg) count)
-      (cond (leg-price-ok (t .quote .bid))
-        (cond (leg-price-ok (t .quote .offer))
-          (cond (ltZ (t .quote .bid) (t .quote .offer)) (Ok tt) (faulty BidNotBelowOffer (t .leg)))
-          (faulty BeyondLimit (t .leg)))
-        (faulty BeyondLimit (t .leg)))
-      (faulty NoSuchLeg (t .leg))
+    (cond (leg-price-ok (t .quote .bid))
+    (cond (leg-price-ok (t .quote .offer))
+    (cond (ltZ (t .quote .bid) (t .quote .offer)) (Ok tt) (faulty BidNotBelowOffer (t .leg)))
+    (faulty BeyondLimit (t .leg)))
+    (faulty BeyondLimit (t .leg)))
+    (faulty NoSuchLeg (t .leg))
 
 abbrev pub legs-answer : List Leg → LegTick → Result (Unit {0}) Fault
 legs-answer ls t = tick-answer (length ls) t

@@ -36,8 +36,8 @@ pub record RangePrices : Type 0 where
 abbrev pub range-from : Side → ℤ → ℤ → ℤ → Result RangePrices RangeRefusal
 range-from side limit floor contra =
     cond (ltZ (minZ limit contra) floor)
-      (Err InitiatingBelowFloor)
-      (Ok (record { side = side; floor = floor; contra = contra; initiating = minZ limit contra }))
+    (Err InitiatingBelowFloor)
+    (Ok (record { side = side; floor = floor; contra = contra; initiating = minZ limit contra }))
 
 -- A side that shows no price is refusal 14.
 abbrev pub range-faced : Side → ℤ → Option ℤ → Option ℤ → Result RangePrices RangeRefusal
@@ -50,8 +50,8 @@ range-faced side limit (Some floor) (Some contra) = range-from side limit floor 
 abbrev pub permitted : Side → ℤ → Quote → Result RangePrices RangeRefusal
 permitted side limit q =
     cond (within 40000000 (Some limit))
-      (range-faced side (turned side limit) (turned-quote side q .floor) (turned-quote side q .contra))
-      (Err PriceOutsideLimits)
+    (range-faced side (turned side limit) (turned-quote side q .floor) (turned-quote side q .contra))
+    (Err PriceOutsideLimits)
 
 abbrev pub range-prices : PermittedRange → RangePrices
 range-prices r = record { side = r .side; floor = r .floor; contra = r .contra; initiating = r .initiating }

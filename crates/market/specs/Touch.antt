@@ -21,10 +21,10 @@ touch-quote t = record { bid = t .bid; offer = t .offer }
 abbrev pub touch-answer : Quote → Result (Unit {0}) Fault
 touch-answer q =
     cond (within 40000000 (q .bid))
-      (cond (within 40000000 (q .offer))
-        (cond (uncrossed (q .bid) (q .offer)) (Ok tt) (faulty BidNotBelowOffer 0))
-        (faulty BeyondLimit 1))
-      (faulty BeyondLimit 0)
+    (cond (within 40000000 (q .offer))
+    (cond (uncrossed (q .bid) (q .offer)) (Ok tt) (faulty BidNotBelowOffer 0))
+    (faulty BeyondLimit 1))
+    (faulty BeyondLimit 0)
 
 -- An accepted quote takes the place of the one before.
 abbrev pub touch-next : Quote → Quote → Quote

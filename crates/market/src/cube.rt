@@ -26,5 +26,11 @@ pub fn cube_market(legs: Legs) -> CubeMarket
     ensures last_quotes { λ r. ⌜ ((ticks : CubeTicks) → cube-meaning .shows (after cube-meaning (cube-position r) ticks) ≡ cube-quote (last-book ticks) (last-legs (legs-of legs) ticks)) ⌝ }
 {
     let step = legs.smallest_ratio();
-    BetterOf { left: Improve { inner: Touch::new(), step: 1 }, right: Improve { inner: legs, step } }
+    BetterOf {
+        left: Improve {
+            inner: Touch::new(),
+            step: 1,
+        },
+        right: Improve { inner: legs, step },
+    }
 }

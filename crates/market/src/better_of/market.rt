@@ -54,6 +54,18 @@ impl<X, Y> BetterOf<X, Y> {
     {
         BetterOf { left, right }
     }
+
+    pub fn left(&self) -> &X
+        ensures { λ r. ⌜ now r ≡ now (self .entry) .left ⌝ }
+    {
+        &self.left
+    }
+
+    pub fn right(&self) -> &Y
+        ensures { λ r. ⌜ now r ≡ now (self .entry) .right ⌝ }
+    {
+        &self.right
+    }
 }
 
 pub impl<X: Market, Y: Market> Market for BetterOf<X, Y> as BetterOfMarket {
@@ -72,7 +84,10 @@ pub impl<X: Market, Y: Market> Market for BetterOf<X, Y> as BetterOfMarket {
     {
         let left = self.left.shown();
         let right = self.right.shown();
-        Quote { bid: higher_of(left.bid, right.bid), offer: lower_of(left.offer, right.offer) }
+        Quote {
+            bid: higher_of(left.bid, right.bid),
+            offer: lower_of(left.offer, right.offer),
+        }
     }
 
     fn tick(&mut self, tick: Half<X::Tick, Y::Tick>) -> Result<(), Half<X::Fault, Y::Fault>>

@@ -42,7 +42,10 @@ impl<M> Improve<M> {
         if step < 1 || step > 9 {
             return Err((SetupRefusal::RatioOrStep, market));
         }
-        Ok(Improve { inner: market, step })
+        Ok(Improve {
+            inner: market,
+            step,
+        })
     }
 }
 
@@ -61,7 +64,10 @@ pub impl<M: Market> Market for Improve<M> as ImproveMarket {
         ensures { λ r. ⌜ r ≡ improved-quote (now (self .entry) .step) (M·Market .meaning .shows (M·Market .position (now (self .entry) .inner))) ⌝ }
     {
         let inner = self.inner.shown();
-        Quote { bid: raised(inner.bid, self.step), offer: lowered(inner.offer, self.step) }
+        Quote {
+            bid: raised(inner.bid, self.step),
+            offer: lowered(inner.offer, self.step),
+        }
     }
 
     fn tick(&mut self, tick: M::Tick) -> Result<(), M::Fault>

@@ -17,7 +17,11 @@ fn in_range(ratio: u8) -> bool
 fn unquoted_leg(terms: LegTerms) -> Leg
     ensures { λ r. ⌜ r ≡ unquoted terms ⌝ }
 {
-    Leg { side: terms.side, ratio: terms.ratio, quote: None }
+    Leg {
+        side: terms.side,
+        ratio: terms.ratio,
+        quote: None,
+    }
 }
 
 fn smaller(leg: Option<Leg>, ratio: u8) -> u8
@@ -37,7 +41,12 @@ impl Legs {
         if !in_range(first.ratio) || !in_range(second.ratio) {
             return Err(SetupRefusal::RatioOrStep);
         }
-        Ok(Legs { first: unquoted_leg(first), second: unquoted_leg(second), third: None, fourth: None })
+        Ok(Legs {
+            first: unquoted_leg(first),
+            second: unquoted_leg(second),
+            third: None,
+            fourth: None,
+        })
     }
 
     // One leg more, not yet quoted, up to four.
@@ -62,7 +71,9 @@ impl Legs {
         ensures least { λ r. ⌜ 1 ≤ r ⌝ }
         ensures most { λ r. ⌜ r ≤ 9 ⌝ }
     {
-        let others = smaller(self.third, smaller(self.fourth, 9));
-        self.first.ratio.min(self.second.ratio.min(others))
+        smaller(
+            self.fourth,
+            smaller(self.third, self.first.ratio.min(self.second.ratio)),
+        )
     }
 }

@@ -32,13 +32,22 @@ fn fault_of(count: u32, tick: LegTick) -> Result<(), Fault>
 {
     let place = tick.leg;
     if place < 1 || place > count {
-        return Err(Fault { cause: Cause::NoSuchLeg, place });
+        return Err(Fault {
+            cause: Cause::NoSuchLeg,
+            place,
+        });
     }
     if !in_limits(tick.quote.bid) || !in_limits(tick.quote.offer) {
-        return Err(Fault { cause: Cause::BeyondLimit, place });
+        return Err(Fault {
+            cause: Cause::BeyondLimit,
+            place,
+        });
     }
     if tick.quote.bid >= tick.quote.offer {
-        return Err(Fault { cause: Cause::BidNotBelowOffer, place });
+        return Err(Fault {
+            cause: Cause::BidNotBelowOffer,
+            place,
+        });
     }
     Ok(())
 }
@@ -50,7 +59,10 @@ fn requoted(leg: Leg, quote: LegQuote) -> Leg
     ensures value { λ r. ⌜ r ≡ quoted quote leg ⌝ }
     ensures ok { λ r. ⌜ leg-ok r ≡ true ⌝ }
 {
-    Leg { quote: Some(quote), ..leg }
+    Leg {
+        quote: Some(quote),
+        ..leg
+    }
 }
 
 fn requoted_if_any(leg: Option<Leg>, quote: LegQuote) -> Option<Leg>
@@ -105,7 +117,10 @@ pub impl Market for Legs as LegsMarket {
     fn shown(&self) -> Quote
         ensures { λ r. ⌜ r ≡ legs-quote (legs-of (now (self .entry))) ⌝ }
     {
-        Quote { bid: self.sum(QuoteSide::Bid), offer: self.sum(QuoteSide::Offer) }
+        Quote {
+            bid: self.sum(QuoteSide::Bid),
+            offer: self.sum(QuoteSide::Offer),
+        }
     }
 
     fn tick(&mut self, tick: LegTick) -> Result<(), Fault>

@@ -4,9 +4,9 @@ ghost use mathlib.Core.Path.{_≡_};
 ghost use Rattle.market.specs.LegInvariant.{leg-ok, optional-leg-ok, third-before-fourth};
 
 pub mod leg;
-pub mod sum;
 pub mod make;
 pub mod market;
+pub mod sum;
 
 use leg::Leg;
 

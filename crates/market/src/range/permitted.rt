@@ -39,13 +39,24 @@ fn turn_quote(side: Side, quote: Quote) -> TurnedQuote
     let bid = turned_price(side, quote.bid);
     let offer = turned_price(side, quote.offer);
     match side {
-        Side::Buy => TurnedQuote { floor: bid, contra: offer },
-        Side::Sell => TurnedQuote { floor: offer, contra: bid },
+        Side::Buy => TurnedQuote {
+            floor: bid,
+            contra: offer,
+        },
+        Side::Sell => TurnedQuote {
+            floor: offer,
+            contra: bid,
+        },
     }
 }
 
 // The range between a floor and the lower of a limit and a contra price, all of them turned.
-fn range_from(side: Side, limit: i64, floor: i64, contra: i64) -> Result<PermittedRange, RangeRefusal>
+fn range_from(
+    side: Side,
+    limit: i64,
+    floor: i64,
+    contra: i64,
+) -> Result<PermittedRange, RangeRefusal>
     requires limit { ⌜ within 50000000 (Some limit) ≡ true ⌝ }
     requires floor { ⌜ within 50000000 (Some floor) ≡ true ⌝ }
     requires contra { ⌜ within 50000000 (Some contra) ≡ true ⌝ }
@@ -55,7 +66,12 @@ fn range_from(side: Side, limit: i64, floor: i64, contra: i64) -> Result<Permitt
     if initiating < floor {
         return Err(RangeRefusal::InitiatingBelowFloor);
     }
-    Ok(PermittedRange { side, floor, contra, initiating })
+    Ok(PermittedRange {
+        side,
+        floor,
+        contra,
+        initiating,
+    })
 }
 
 // What a market shows to an order of this side, on turned prices.
@@ -87,7 +103,11 @@ fn in_limits(price: i64) -> bool
 }
 
 // The range that a market permits an order of this side with this limit price, which may be any number.
-pub fn permitted_range<M: Market>(market: &M, side: Side, limit: i64) -> Result<PermittedRange, RangeRefusal>
+pub fn permitted_range<M: Market>(
+    market: &M,
+    side: Side,
+    limit: i64,
+) -> Result<PermittedRange, RangeRefusal>
     ensures answer { λ r. ⌜ range-answer r ≡ permitted side limit (M·Market .meaning .shows (M·Market .position (now (market .entry)))) ⌝ }
     ensures laws { λ r. ⌜ RangeLaws side limit (M·Market .meaning .shows (M·Market .position (now (market .entry)))) (range-answer r) ⌝ }
 {

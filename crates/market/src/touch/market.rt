@@ -35,13 +35,22 @@ fn fault_of(quote: Quote) -> Result<(), Fault>
     ensures { λ r. ⌜ r ≡ touch-answer quote ⌝ }
 {
     if !inside(quote.bid) {
-        return Err(Fault { cause: Cause::BeyondLimit, place: 0 });
+        return Err(Fault {
+            cause: Cause::BeyondLimit,
+            place: 0,
+        });
     }
     if !inside(quote.offer) {
-        return Err(Fault { cause: Cause::BeyondLimit, place: 1 });
+        return Err(Fault {
+            cause: Cause::BeyondLimit,
+            place: 1,
+        });
     }
     if !in_order(quote.bid, quote.offer) {
-        return Err(Fault { cause: Cause::BidNotBelowOffer, place: 0 });
+        return Err(Fault {
+            cause: Cause::BidNotBelowOffer,
+            place: 0,
+        });
     }
     Ok(())
 }
@@ -51,7 +60,10 @@ impl Touch {
     pub fn new() -> Self
         ensures { λ r. ⌜ touch-quote r ≡ nothing-shown ⌝ }
     {
-        Touch { bid: None, offer: None }
+        Touch {
+            bid: None,
+            offer: None,
+        }
     }
 }
 
@@ -69,7 +81,10 @@ pub impl Market for Touch as TouchMarket {
     fn shown(&self) -> Quote
         ensures { λ r. ⌜ r ≡ touch-quote (now (self .entry)) ⌝ }
     {
-        Quote { bid: self.bid, offer: self.offer }
+        Quote {
+            bid: self.bid,
+            offer: self.offer,
+        }
     }
 
     fn tick(&mut self, tick: Quote) -> Result<(), Fault>
@@ -77,7 +92,10 @@ pub impl Market for Touch as TouchMarket {
         ensures next { λ _. ⌜ touch-quote (now (self .exit)) ≡ touch-next (touch-quote (now (self .entry))) tick ⌝ }
     {
         fault_of(tick)?;
-        *self = Touch { bid: tick.bid, offer: tick.offer };
+        *self = Touch {
+            bid: tick.bid,
+            offer: tick.offer,
+        };
         Ok(())
     }
 }

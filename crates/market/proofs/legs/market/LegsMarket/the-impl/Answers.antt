@@ -5,6 +5,7 @@ use Rattle.market.proofs.Bounds.{wider, legs-sum-within}
 use Rattle.market.proofs.legs.market.LegsMarket.the-impl.Needs as need
 
 pub bounded-law : need.bounded-law
-bounded-law s =
-    (wider 36000000 50000000 (legs-sum Bid (legs-of s)) (omega arith) (legs-sum-within Bid s),
-     wider 36000000 50000000 (legs-sum Offer (legs-of s)) (omega arith) (legs-sum-within Offer s))
+bounded-law s = (
+  wider 36000000 50000000 (legs-sum Bid (legs-of s)) (omega arith) (legs-sum-within Bid s),
+  wider 36000000 50000000 (legs-sum Offer (legs-of s)) (omega arith) (legs-sum-within Offer s),
+)
