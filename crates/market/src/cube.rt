@@ -20,10 +20,9 @@ pub type CubeTick = Half<Quote, LegTick>;
 
 pub type CubeFault = Half<Fault, Fault>;
 
-// The CUBE market of these legs, before the book's first quote.
-pub fn cube_market(legs: Legs) -> CubeMarket
-    ensures made { λ r. ⌜ cube-position r ≡ cube-start (legs-of legs) ⌝ }
-    ensures last_quotes { λ r. ⌜ ((ticks : CubeTicks) → cube-meaning .shows (after cube-meaning (cube-position r) ticks) ≡ cube-quote (last-book ticks) (last-legs (legs-of legs) ticks)) ⌝ }
+// The two halves, each improved by its step.
+fn pile(legs: Legs) -> CubeMarket
+    ensures { λ r. ⌜ cube-position r ≡ cube-start (legs-of legs) ⌝ }
 {
     let step = legs.smallest_ratio();
     BetterOf {
@@ -33,4 +32,12 @@ pub fn cube_market(legs: Legs) -> CubeMarket
         },
         right: Improve { inner: legs, step },
     }
+}
+
+// The CUBE market of these legs, before the book's first quote.
+pub fn cube_market(legs: Legs) -> CubeMarket
+    ensures made { λ r. ⌜ cube-position r ≡ cube-start (legs-of legs) ⌝ }
+    ensures last_quotes { λ r. ⌜ ((ticks : CubeTicks) → cube-meaning .shows (after cube-meaning (cube-position r) ticks) ≡ cube-quote (last-book ticks) (last-legs (legs-of legs) ticks)) ⌝ }
+{
+    pile(legs)
 }

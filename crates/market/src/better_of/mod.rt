@@ -5,7 +5,7 @@ ghost use Rattle.market.specs.declared.better_of.Half.the-variants.{Left, Righ
 pub mod market;
 
 // What belongs to one half: a tick for it, or its fault.
-#[derive(Drop, PartialEq, Eq, Debug)]
+#[derive(Drop)]
 pub enum Half<S, T> {
     Left(S),
     Right(T),

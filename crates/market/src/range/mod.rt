@@ -10,7 +10,7 @@ pub mod permitted;
 
 // What a market shows to an order of one side, on turned prices: the best price against which the order competes,
 // and the price at which the other side of the market would trade with it now.
-#[derive(Clone, Copy, PartialEq, Eq, Debug)]
+#[derive(Clone, Copy)]
 pub struct TurnedQuote {
     pub floor: Option<i64>,
     pub contra: Option<i64>,

@@ -102,6 +102,16 @@ fn in_limits(price: i64) -> bool
     -MOST <= price && price <= MOST
 }
 
+// Each refusal in its order, or the range.
+fn judged<M: Market>(market: &M, side: Side, limit: i64) -> Result<PermittedRange, RangeRefusal>
+    ensures { λ r. ⌜ range-answer r ≡ permitted side limit (M·Market .meaning .shows (M·Market .position (now (market .entry)))) ⌝ }
+{
+    if !in_limits(limit) {
+        return Err(RangeRefusal::PriceOutsideLimits);
+    }
+    range_faced(side, side.turn(limit), turned_quote(market, side))
+}
+
 // The range that a market permits an order of this side with this limit price, which may be any number.
 pub fn permitted_range<M: Market>(
     market: &M,
@@ -111,10 +121,7 @@ pub fn permitted_range<M: Market>(
     ensures answer { λ r. ⌜ range-answer r ≡ permitted side limit (M·Market .meaning .shows (M·Market .position (now (market .entry)))) ⌝ }
     ensures laws { λ r. ⌜ RangeLaws side limit (M·Market .meaning .shows (M·Market .position (now (market .entry)))) (range-answer r) ⌝ }
 {
-    if !in_limits(limit) {
-        return Err(RangeRefusal::PriceOutsideLimits);
-    }
-    range_faced(side, side.turn(limit), turned_quote(market, side))
+    judged(market, side, limit)
 }
 
 impl PermittedRange {

@@ -8,5 +8,8 @@ use Rattle.market.proofs.range.permitted.permitted_range.Needs as need
 
 pub returns : need.returns
 returns g c =
-    let is : range-answer (c .range-faced .result) ≡ permitted (c .args .side) (c .args .limit) (g .M·Market .meaning .shows (g .M·Market .position (c .args .market .now))) = search needs in
-    record { answer = is; laws = subst (RangeLaws (c .args .side) (c .args .limit) _) (sym is) (range-laws (c .args .side) (c .args .limit) _) }
+    let is : range-answer (c .judged .result) ≡ permitted (c .args .side) (c .args .limit) (g .M·Market .meaning .shows (g .M·Market .position (c .args .market .now))) = search needs in
+    record {
+      answer = is;
+      laws = subst (RangeLaws (c .args .side) (c .args .limit) _) (sym is) (range-laws (c .args .side) (c .args .limit) _);
+    }
