@@ -115,9 +115,13 @@ fn name_of(side: Side) -> &'static str {
 
 // For a sell order prices are compared with their signs changed.
 fn show_turned(rt: &LibcRuntime, range: PermittedRange) -> io::Result<()> {
-    let floor = range.floor;
-    let contra = range.contra;
-    let initiating = range.initiating;
+    let floor = Price { cents: range.floor };
+    let contra = Price {
+        cents: range.contra,
+    };
+    let initiating = Price {
+        cents: range.initiating,
+    };
     match range.side {
         Side::Buy => Ok(()),
         Side::Sell => println!(

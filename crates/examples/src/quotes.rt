@@ -1,7 +1,5 @@
 // Quotes that are refused: the cause and the place, in their order.
-use market::fault::Cause;
 use market::fault::Fault;
-use market::fault::FaultPartialEq;
 use market::legs::Legs;
 use market::legs::leg::LegQuote;
 use market::legs::leg::LegTerms;

@@ -123,6 +123,19 @@ const NONE_QUOTED: [Order; 3] = [
     },
 ];
 
+const BOOK_BID_ALONE: [Order; 2] = [
+    Order {
+        side: Side::Buy,
+        limit: 310,
+        want: Outcome::Refused(14),
+    },
+    Order {
+        side: Side::Sell,
+        limit: 310,
+        want: Outcome::Refused(14),
+    },
+];
+
 const AT_294_AND_304: [Order; 14] = [
     Order {
         side: Side::Buy,
@@ -242,47 +255,56 @@ const NEGATIVE: [Order; 5] = [
     },
 ];
 
+fn print_side(rt: &LibcRuntime, name: &str, price: Option<i64>) -> io::Result<()> {
+    match price {
+        None => print!(rt, ", no {name}"),
+        Some(cents) => print!(rt, ", {name} {cents}"),
+    }
+}
+
+// What was told, whether all of it was accepted, and what the CUBE market then shows.
+fn print_shown(rt: &LibcRuntime, told: &str, taken: bool, market: &CubeMarket) -> io::Result<()> {
+    let shown = market.shown();
+    print!(rt, "{told} (accepted: {taken})")?;
+    print_side(rt, "bid", shown.bid)?;
+    print_side(rt, "offer", shown.offer)?;
+    println!(rt, "")
+}
+
+fn leg_quote(bid: i64, offer: i64) -> LegQuote {
+    LegQuote { bid, offer }
+}
+
 pub fn work(rt: &LibcRuntime) -> io::Result<()> {
     let Some(mut market) = pile() else {
         return println!(rt, "THE LEGS ARE REFUSED");
     };
-    println!(rt, "before any quote")?;
+    print_shown(rt, "nothing quoted", true, &market)?;
     work_orders(rt, &market, &NONE_QUOTED)?;
-    let taken = quote_legs(
-        &mut market,
-        LegQuote {
-            bid: 500,
-            offer: 505,
-        },
-        LegQuote {
-            bid: 100,
-            offer: 104,
-        },
-    );
-    let taken = quote_book(&mut market, Some(293), None) && taken;
-    println!(
-        rt,
-        "legs at 500/505 and 100/104, book bid 293 (accepted: {taken})"
-    )?;
+    let taken = quote_book(&mut market, Some(293), None);
+    print_shown(rt, "book bid 293, legs not quoted", taken, &market)?;
+    work_orders(rt, &market, &BOOK_BID_ALONE)?;
+    let taken = quote_legs(&mut market, leg_quote(500, 505), leg_quote(100, 104));
+    print_shown(rt, "legs at 500/505 and 100/104", taken, &market)?;
     work_orders(rt, &market, &AT_294_AND_304)?;
-    let taken = quote_book(&mut market, Some(400), Some(401));
-    println!(
+    let taken = quote_book(&mut market, Some(300), Some(301));
+    print_shown(
         rt,
-        "book at 400 and 401, which improves to 401 and 304 with the legs (accepted: {taken})"
+        "book at 300/301, which crosses itself once improved",
+        taken,
+        &market,
     )?;
     work_orders(rt, &market, &CROSSED)?;
-    let taken = quote_legs(
-        &mut market,
-        LegQuote { bid: 0, offer: 1 },
-        LegQuote {
-            bid: 147,
-            offer: 153,
-        },
-    );
-    let taken = quote_book(&mut market, Some(-305), Some(-293)) && taken;
-    println!(
+    let taken = quote_book(&mut market, Some(400), Some(402));
+    print_shown(
         rt,
-        "a strategy that its buyer is paid for: book at -305 and -293 (accepted: {taken})"
+        "book at 400/402, which crosses the legs",
+        taken,
+        &market,
     )?;
+    work_orders(rt, &market, &CROSSED)?;
+    let taken = quote_legs(&mut market, leg_quote(0, 1), leg_quote(147, 153));
+    let taken = quote_book(&mut market, Some(-305), Some(-293)) && taken;
+    print_shown(rt, "a strategy that its buyer is paid for", taken, &market)?;
     work_orders(rt, &market, &NEGATIVE)
 }

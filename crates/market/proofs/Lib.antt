@@ -1,3 +1,3 @@
-mod Bounds
-mod LastQuotes
-mod RangeAnswers
+mod LegsBounded
+mod CubeLastQuotes
+mod RangeLawful

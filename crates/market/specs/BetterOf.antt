@@ -11,16 +11,19 @@ use Rattle.market.specs.declared.better_of.Half.the-variants.{Left, Right}
 use Rattle.market.specs.declared.quote.Quote.{Quote}
 use Rattle.market.specs.Meaning.{Meaning}
 
+-- The higher of two bids; no price does not count.
 abbrev pub higher : Option ℤ → Option ℤ → Option ℤ
 higher None y = y
 higher (Some x) None = Some x
 higher (Some x) (Some y) = Some (maxZ x y)
 
+-- The lower of two offers; no price does not count.
 abbrev pub lower : Option ℤ → Option ℤ → Option ℤ
 lower None y = y
 lower (Some x) None = Some x
 lower (Some x) (Some y) = Some (minZ x y)
 
+-- Both.
 abbrev pub better-quote : Quote → Quote → Quote
 better-quote p q = record { bid = higher (p .bid) (q .bid); offer = lower (p .offer) (q .offer) }
 

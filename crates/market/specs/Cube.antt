@@ -17,6 +17,7 @@ use Rattle.market.specs.Legs.{legs-of, legs-quote, legs-meaning, smallest-rati
 use Rattle.market.specs.Meaning.{Meaning, nothing-shown}
 use Rattle.market.specs.Touch.{touch-quote, touch-meaning}
 
+-- Ticks, each for the book or for a leg.
 abbrev pub CubeTicks : Type 0
 CubeTicks = List (Half Quote LegTick)
 
@@ -24,6 +25,7 @@ CubeTicks = List (Half Quote LegTick)
 abbrev pub CubePosition : Type 0
 CubePosition = (Quote × ℕ) × (List Leg × ℕ)
 
+-- The position of a CUBE market.
 abbrev pub cube-position : BetterOf (Improve Touch) (Improve Legs) → CubePosition
 cube-position m = ((touch-quote (m .left .inner), m .left .step), (legs-of (m .right .inner), m .right .step))
 
@@ -31,6 +33,7 @@ cube-position m = ((touch-quote (m .left .inner), m .left .step), (legs-of (m .r
 abbrev pub cube-start : List Leg → CubePosition
 cube-start ls = ((nothing-shown, 1), (ls, smallest-ratio ls))
 
+-- The pile as a market.
 abbrev pub cube-meaning : Meaning CubePosition (Half Quote LegTick) (Half Fault Fault)
 cube-meaning = better-of-meaning (improve-meaning touch-meaning) (improve-meaning legs-meaning)
 

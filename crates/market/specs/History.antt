@@ -1,5 +1,6 @@
--- What a market holds after ticks, said from the ticks alone: the book its last accepted quote, each leg its last
--- accepted one, and nothing before the first.
+-- What the CUBE market holds after ticks, said from the legs as they were given and the ticks alone: the book has its
+-- last accepted quote, and none before the first; each leg has its last accepted one, and before the first the one that
+-- it came with, if any.
 use Prim.Native.Nat.{ℕ, suc}
 use mathlib.Core.Bool.{cond, _&&_}
 use mathlib.Core.List.{List, [], _∷_}
@@ -40,17 +41,19 @@ leg-quotes count n [] = []
 leg-quotes count n (Left q ∷ ts) = leg-quotes count n ts
 leg-quotes count n (Right t ∷ ts) = cond (eqb (t .leg) n && isOk (tick-answer count t)) (Some (t .quote) ∷ leg-quotes count n ts) (leg-quotes count n ts)
 
+-- The book's last accepted quote; no price before the first.
 abbrev pub last-book : List (Half Quote LegTick) → Quote
 last-book ts = last-or nothing-shown (book-quotes ts)
 
 -- A leg with the last quote that it took, or the one that it had.
-abbrev pub requoted : List (Option LegQuote) → Leg → Leg
-requoted qs l = record { side = l .side; ratio = l .ratio; quote = last-or (l .quote) qs }
+abbrev pub with-last-quote : List (Option LegQuote) → Leg → Leg
+with-last-quote qs l = record { side = l .side; ratio = l .ratio; quote = last-or (l .quote) qs }
 
 -- Each leg, the first of them numbered `n`, with the last quote that it took.
 abbrev pub legs-from : ℕ → ℕ → List Leg → List (Half Quote LegTick) → List Leg
 legs-from count n [] ts = []
-legs-from count n (l ∷ ls) ts = requoted (leg-quotes count n ts) l ∷ legs-from count (suc n) ls ts
+legs-from count n (l ∷ ls) ts = with-last-quote (leg-quotes count n ts) l ∷ legs-from count (suc n) ls ts
 
+-- The legs, each with its last accepted quote.
 abbrev pub last-legs : List Leg → List (Half Quote LegTick) → List Leg
 last-legs ls ts = legs-from (length ls) 1 ls ts

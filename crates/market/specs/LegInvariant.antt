@@ -10,19 +10,24 @@ use Rattle.market.specs.declared.legs.leg.Leg.{Leg}
 use Rattle.market.specs.declared.legs.leg.LegQuote.{LegQuote}
 use Rattle.market.specs.OneToNine.{one-to-nine}
 
+-- A leg's price is 0 to 1,000,000.
 abbrev pub leg-price-ok : ℤ → Bool
 leg-price-ok z = leZ (pos 0) z && leZ z (pos 1000000)
 
+-- Both prices, and the bid below the offer.
 abbrev pub leg-quote-ok : LegQuote → Bool
 leg-quote-ok q = leg-price-ok (q .bid) && leg-price-ok (q .offer) && ltZ (q .bid) (q .offer)
 
+-- The quote that a leg took last, if any.
 abbrev pub last-quote-ok : Option LegQuote → Bool
 last-quote-ok None = true
 last-quote-ok (Some q) = leg-quote-ok q
 
+-- Ratio and quote.
 abbrev pub leg-ok : Leg → Bool
 leg-ok l = one-to-nine (l .ratio) && last-quote-ok (l .quote)
 
+-- A leg that may be missing.
 abbrev pub optional-leg-ok : Option Leg → Bool
 optional-leg-ok None = true
 optional-leg-ok (Some l) = leg-ok l

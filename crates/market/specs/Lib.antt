@@ -9,6 +9,7 @@ pub mod Improve
 pub mod BetterOf
 pub mod LegInvariant
 pub mod Legs
+pub mod LegSteps
 pub mod Cube
 pub mod History
 pub mod Range

@@ -6,7 +6,7 @@ use Rattle.std.specs.Results.{isOk}
 use Rattle.std.specs.declared.option.Option.the-variants.{None}
 use Rattle.std.specs.declared.result.Result.{Result}
 use Rattle.market.specs.declared.quote.Quote.{Quote}
-use Rattle.market.specs.Prices.{within}
+use Rattle.market.specs.Prices.{showable}
 
 -- A market of positions P, ticks T and faults F: what a position shows, how it answers a tick, and which position
 -- follows. All three follow from the position, and the last two from the tick as well, and from nothing else.
@@ -21,7 +21,7 @@ nothing-shown = record { bid = None; offer = None }
 
 -- Each price shown is at most 50,000,000 cents either way.
 abbrev pub Bounded : Quote → Type 0
-Bounded q = (within 50000000 (q .bid) ≡ true) × (within 50000000 (q .offer) ≡ true)
+Bounded q = (showable (q .bid) ≡ true) × (showable (q .offer) ≡ true)
 
 -- A refused tick leaves the position.
 abbrev pub Refused-leaves : {P T F : Type 0} → Meaning P T F → Type 0

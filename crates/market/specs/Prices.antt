@@ -12,6 +12,14 @@ abbrev pub within : ℕ → Option ℤ → Bool
 within n None = true
 within n (Some z) = leb (natAbs z) n
 
+-- The limits of prices that are sent in: −40,000,000 to 40,000,000.
+abbrev pub in-limits : Option ℤ → Bool
+in-limits = within 40000000
+
+-- The limits of prices that a market shows: at most 50,000,000 either way.
+abbrev pub showable : Option ℤ → Bool
+showable = within 50000000
+
 -- Where both are given, the bid is below the offer.
 abbrev pub uncrossed : Option ℤ → Option ℤ → Bool
 uncrossed None o = true

@@ -13,10 +13,10 @@ use Rattle.market.specs.declared.quote.Quote.{Quote}
 use Rattle.market.specs.declared.range.PermittedRange.{PermittedRange}
 use Rattle.market.specs.declared.range.TurnedQuote.{TurnedQuote}
 use Rattle.market.specs.declared.refusal.RangeRefusal.{RangeRefusal}
-use Rattle.market.specs.declared.refusal.RangeRefusal.the-variants.{PriceOutsideLimits, SideShowsNoPrice, InitiatingBelowFloor}
 use Rattle.market.specs.declared.side.Side.{Side}
 use Rattle.market.specs.declared.side.Side.the-variants.{Buy, Sell}
-use Rattle.market.specs.Prices.{within}
+use Rattle.market.specs.Prices.{in-limits}
+use Rattle.market.specs.Refusals.{range-refusal}
 use Rattle.market.specs.Turned.{turned}
 
 -- The floor is the shown bid and the contra price the shown offer; for a sell order, the turned offer and the turned
@@ -25,7 +25,7 @@ abbrev pub turned-quote : Side → Quote → TurnedQuote
 turned-quote Buy q = record { floor = q .bid; contra = q .offer }
 turned-quote Sell q = record { floor = mapped negℤ (q .offer); contra = mapped negℤ (q .bid) }
 
--- The three prices of a range.
+-- A range: the order's side and three turned prices.
 pub record RangePrices : Type 0 where
   pub side : Side
   pub floor : ℤ
@@ -36,33 +36,36 @@ pub record RangePrices : Type 0 where
 abbrev pub range-from : Side → ℤ → ℤ → ℤ → Result RangePrices RangeRefusal
 range-from side limit floor contra =
     cond (ltZ (minZ limit contra) floor)
-    (Err InitiatingBelowFloor)
+    (Err (range-refusal 15))
     (Ok (record { side = side; floor = floor; contra = contra; initiating = minZ limit contra }))
 
 -- A side that shows no price is refusal 14.
 abbrev pub range-faced : Side → ℤ → Option ℤ → Option ℤ → Result RangePrices RangeRefusal
-range-faced side limit None contra = Err SideShowsNoPrice
-range-faced side limit (Some floor) None = Err SideShowsNoPrice
+range-faced side limit None contra = Err (range-refusal 14)
+range-faced side limit (Some floor) None = Err (range-refusal 14)
 range-faced side limit (Some floor) (Some contra) = range-from side limit floor contra
 
 -- What a market that shows `q` permits an order of a side and a limit price; a limit price outside −40,000,000 to
 -- 40,000,000 is refusal 2.
 abbrev pub permitted : Side → ℤ → Quote → Result RangePrices RangeRefusal
 permitted side limit q =
-    cond (within 40000000 (Some limit))
+    cond (in-limits (Some limit))
     (range-faced side (turned side limit) (turned-quote side q .floor) (turned-quote side q .contra))
-    (Err PriceOutsideLimits)
+    (Err (range-refusal 2))
 
+-- The prices of a range that was given.
 abbrev pub range-prices : PermittedRange → RangePrices
 range-prices r = record { side = r .side; floor = r .floor; contra = r .contra; initiating = r .initiating }
 
+-- The prices, or the refusal.
 abbrev pub range-answer : Result PermittedRange RangeRefusal → Result RangePrices RangeRefusal
 range-answer (Ok r) = Ok (range-prices r)
 range-answer (Err e) = Err e
 
--- The range as the strategy is priced, not turned: from the floor up for a buy, and down from the turned floor for a sell.
+-- The lowest permitted price as the strategy is priced: floor or initiating price, turned back.
 abbrev pub lowest-price : RangePrices → ℤ
 lowest-price r = minZ (turned (r .side) (r .floor)) (turned (r .side) (r .initiating))
 
+-- The highest permitted price, turned back.
 abbrev pub highest-price : RangePrices → ℤ
 highest-price r = maxZ (turned (r .side) (r .floor)) (turned (r .side) (r .initiating))

@@ -4,13 +4,12 @@ use mathlib.Core.Bool.{cond}
 use Rattle.std.specs.Results.{isOk}
 use Rattle.std.specs.declared.result.Result.{Result}
 use Rattle.std.specs.declared.result.Result.the-variants.{Ok}
-use Rattle.market.specs.declared.fault.Cause.the-variants.{BeyondLimit, BidNotBelowOffer}
 use Rattle.market.specs.declared.fault.Fault.{Fault}
 use Rattle.market.specs.declared.quote.Quote.{Quote}
 use Rattle.market.specs.declared.touch.Touch.{Touch}
-use Rattle.market.specs.Faults.{faulty}
+use Rattle.market.specs.Faults.{fault}
 use Rattle.market.specs.Meaning.{Meaning}
-use Rattle.market.specs.Prices.{within, uncrossed}
+use Rattle.market.specs.Prices.{in-limits, uncrossed}
 
 -- A touch is at the quote that it took last.
 abbrev pub touch-quote : Touch → Quote
@@ -20,15 +19,16 @@ touch-quote t = record { bid = t .bid; offer = t .offer }
 -- both are given, the bid is below the offer (place 0).
 abbrev pub touch-answer : Quote → Result (Unit {0}) Fault
 touch-answer q =
-    cond (within 40000000 (q .bid))
-    (cond (within 40000000 (q .offer))
-    (cond (uncrossed (q .bid) (q .offer)) (Ok tt) (faulty BidNotBelowOffer 0))
-    (faulty BeyondLimit 1))
-    (faulty BeyondLimit 0)
+    cond (in-limits (q .bid))
+    (cond (in-limits (q .offer))
+    (cond (uncrossed (q .bid) (q .offer)) (Ok tt) (fault 3 0))
+    (fault 2 1))
+    (fault 2 0)
 
 -- An accepted quote takes the place of the one before.
 abbrev pub touch-next : Quote → Quote → Quote
 touch-next p q = cond (isOk (touch-answer q)) q p
 
+-- A touch as a market: it shows the quote that it is at.
 abbrev pub touch-meaning : Meaning Quote Quote Fault
 touch-meaning = record { shows = λ p. p; answer = λ _ q. touch-answer q; next = touch-next }

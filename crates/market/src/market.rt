@@ -23,7 +23,8 @@ pub trait Market {
     law refused: { Refused-leaves meaning };
 
     fn shown(&self) -> Quote
-        ensures { λ r. ⌜ r ≡ meaning .shows (position (now (self .entry))) ⌝ };
+        ensures answer { λ r. ⌜ r ≡ meaning .shows (position (now (self .entry))) ⌝ }
+        ensures leaves { λ _. ⌜ position (now (self .exit)) ≡ position (now (self .entry)) ⌝ };
 
     fn tick(&mut self, tick: Self::Tick) -> Result<(), Self::Fault>
         ensures answer { λ r. ⌜ r ≡ meaning .answer (position (now (self .entry))) tick ⌝ }

@@ -2,7 +2,7 @@
 ghost use mathlib.Core.Bool.{true};
 ghost use mathlib.Core.Path.{_≡_};
 ghost use Rattle.std.specs.declared.option.Option.the-variants.{Some};
-ghost use Rattle.market.specs.Prices.{within};
+ghost use Rattle.market.specs.Prices.{showable};
 ghost use Rattle.market.specs.Turned.{turned};
 
 #[derive(Clone, Copy)]
@@ -14,7 +14,7 @@ pub enum Side {
 impl Side {
     // The price itself for a buy, the price with its sign changed for a sell.
     pub(crate) fn turn(self, price: i64) -> i64
-        requires { ⌜ within 50000000 (Some price) ≡ true ⌝ }
+        requires { ⌜ showable (Some price) ≡ true ⌝ }
         ensures { λ r. ⌜ r ≡ turned self price ⌝ }
     {
         match self {

@@ -80,7 +80,8 @@ pub impl<X: Market, Y: Market> Market for BetterOf<X, Y> as BetterOfMarket {
     ghost meaning = { better-of-meaning (X·Market .meaning) (Y·Market .meaning) };
 
     fn shown(&self) -> Quote
-        ensures { λ r. ⌜ r ≡ better-quote (X·Market .meaning .shows (X·Market .position (now (self .entry) .left))) (Y·Market .meaning .shows (Y·Market .position (now (self .entry) .right))) ⌝ }
+        ensures answer { λ r. ⌜ r ≡ better-quote (X·Market .meaning .shows (X·Market .position (now (self .entry) .left))) (Y·Market .meaning .shows (Y·Market .position (now (self .entry) .right))) ⌝ }
+        ensures leaves { λ _. ⌜ now (self .exit) ≡ now (self .entry) ⌝ }
     {
         let left = self.left.shown();
         let right = self.right.shown();

@@ -1,6 +1,7 @@
 // An improved market as a market: ticks and faults pass through.
 use super::Improve;
 use crate::market::Market;
+use crate::prices::MOST_SHOWN;
 use crate::quote::Quote;
 use crate::refusal::SetupRefusal;
 ghost use Prim.Native.Nat.{ℕ, _≤_};
@@ -8,29 +9,27 @@ ghost use mathlib.Core.Bool.{true};
 ghost use mathlib.Core.Path.{_≡_};
 ghost use Rattle.market.specs.Improve.{improve-made, improve-parts, raised-bid, lowered-offer, improved-quote, improve-meaning};
 ghost use Rattle.market.specs.Meaning.{Bounded};
-ghost use Rattle.market.specs.Prices.{within};
-
-const MOST: i64 = 50_000_000;
+ghost use Rattle.market.specs.Prices.{showable};
 
 fn raised(price: Option<i64>, step: u8) -> Option<i64>
-    requires price { ⌜ within 50000000 price ≡ true ⌝ }
+    requires price { ⌜ showable price ≡ true ⌝ }
     requires step { ⌜ step ≤ 9 ⌝ }
     ensures { λ r. ⌜ r ≡ raised-bid step price ⌝ }
 {
     match price {
         None => None,
-        Some(z) => Some((z + i64::from(step)).clamp(-MOST, MOST)),
+        Some(z) => Some((z + i64::from(step)).clamp(-MOST_SHOWN, MOST_SHOWN)),
     }
 }
 
 fn lowered(price: Option<i64>, step: u8) -> Option<i64>
-    requires price { ⌜ within 50000000 price ≡ true ⌝ }
+    requires price { ⌜ showable price ≡ true ⌝ }
     requires step { ⌜ step ≤ 9 ⌝ }
     ensures { λ r. ⌜ r ≡ lowered-offer step price ⌝ }
 {
     match price {
         None => None,
-        Some(z) => Some((z - i64::from(step)).clamp(-MOST, MOST)),
+        Some(z) => Some((z - i64::from(step)).clamp(-MOST_SHOWN, MOST_SHOWN)),
     }
 }
 
@@ -61,7 +60,8 @@ pub impl<M: Market> Market for Improve<M> as ImproveMarket {
     ghost meaning = { improve-meaning (M·Market .meaning) };
 
     fn shown(&self) -> Quote
-        ensures { λ r. ⌜ r ≡ improved-quote (now (self .entry) .step) (M·Market .meaning .shows (M·Market .position (now (self .entry) .inner))) ⌝ }
+        ensures answer { λ r. ⌜ r ≡ improved-quote (now (self .entry) .step) (M·Market .meaning .shows (M·Market .position (now (self .entry) .inner))) ⌝ }
+        ensures leaves { λ _. ⌜ now (self .exit) ≡ now (self .entry) ⌝ }
     {
         let inner = self.inner.shown();
         Quote {

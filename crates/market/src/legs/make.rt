@@ -5,10 +5,11 @@ use super::leg::LegTerms;
 use crate::refusal::SetupRefusal;
 ghost use Prim.Native.Nat.{_≤_};
 ghost use mathlib.Core.Path.{_≡_};
-ghost use Rattle.market.specs.Legs.{legs-of, made-legs, legs-made, legs-add, legs-added, unquoted, smallest-ratio, smallest-with};
+ghost use Rattle.market.specs.LegSteps.{smallest-with};
+ghost use Rattle.market.specs.Legs.{legs-of, made-legs, legs-made, legs-add, legs-added, unquoted, smallest-ratio};
 ghost use Rattle.market.specs.OneToNine.{one-to-nine};
 
-fn in_range(ratio: u8) -> bool
+fn one_to_nine(ratio: u8) -> bool
     ensures { λ r. ⌜ r ≡ one-to-nine ratio ⌝ }
 {
     1 <= ratio && ratio <= 9
@@ -38,7 +39,7 @@ impl Legs {
     pub fn new(first: LegTerms, second: LegTerms) -> Result<Legs, SetupRefusal>
         ensures { λ r. ⌜ made-legs r ≡ legs-made first second ⌝ }
     {
-        if !in_range(first.ratio) || !in_range(second.ratio) {
+        if !one_to_nine(first.ratio) || !one_to_nine(second.ratio) {
             return Err(SetupRefusal::RatioOrStep);
         }
         Ok(Legs {
@@ -54,7 +55,7 @@ impl Legs {
         ensures answer { λ r. ⌜ r ≡ legs-add (legs-of (now (self .entry))) leg ⌝ }
         ensures after { λ _. ⌜ legs-of (now (self .exit)) ≡ legs-added (legs-of (now (self .entry))) leg ⌝ }
     {
-        if !in_range(leg.ratio) {
+        if !one_to_nine(leg.ratio) {
             return Err(SetupRefusal::RatioOrStep);
         }
         match (self.third, self.fourth) {

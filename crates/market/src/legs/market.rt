@@ -53,7 +53,7 @@ fn fault_of(count: u32, tick: LegTick) -> Result<(), Fault>
 }
 
 // The leg with a new quote.
-fn requoted(leg: Leg, quote: LegQuote) -> Leg
+fn quoted_leg(leg: Leg, quote: LegQuote) -> Leg
     requires leg { ⌜ leg-ok leg ≡ true ⌝ }
     requires quote { ⌜ leg-quote-ok quote ≡ true ⌝ }
     ensures value { λ r. ⌜ r ≡ quoted quote leg ⌝ }
@@ -65,7 +65,7 @@ fn requoted(leg: Leg, quote: LegQuote) -> Leg
     }
 }
 
-fn requoted_if_any(leg: Option<Leg>, quote: LegQuote) -> Option<Leg>
+fn quoted_if_any(leg: Option<Leg>, quote: LegQuote) -> Option<Leg>
     requires leg { ⌜ optional-leg-ok leg ≡ true ⌝ }
     requires quote { ⌜ leg-quote-ok quote ≡ true ⌝ }
     ensures value { λ r. ⌜ r ≡ mapped (quoted quote) leg ⌝ }
@@ -73,7 +73,7 @@ fn requoted_if_any(leg: Option<Leg>, quote: LegQuote) -> Option<Leg>
 {
     match leg {
         None => None,
-        Some(l) => Some(requoted(l, quote)),
+        Some(l) => Some(quoted_leg(l, quote)),
     }
 }
 
@@ -94,10 +94,10 @@ impl Legs {
         ensures { λ _. ⌜ legs-of (now (self .exit)) ≡ quote-leg number quote (legs-of (now (self .entry))) ⌝ }
     {
         match number {
-            1 => self.first = requoted(self.first, quote),
-            2 => self.second = requoted(self.second, quote),
-            3 => self.third = requoted_if_any(self.third, quote),
-            4 => self.fourth = requoted_if_any(self.fourth, quote),
+            1 => self.first = quoted_leg(self.first, quote),
+            2 => self.second = quoted_leg(self.second, quote),
+            3 => self.third = quoted_if_any(self.third, quote),
+            4 => self.fourth = quoted_if_any(self.fourth, quote),
             _ => {}
         }
     }
@@ -115,7 +115,8 @@ pub impl Market for Legs as LegsMarket {
     ghost meaning = { legs-meaning };
 
     fn shown(&self) -> Quote
-        ensures { λ r. ⌜ r ≡ legs-quote (legs-of (now (self .entry))) ⌝ }
+        ensures answer { λ r. ⌜ r ≡ legs-quote (legs-of (now (self .entry))) ⌝ }
+        ensures leaves { λ _. ⌜ now (self .exit) ≡ now (self .entry) ⌝ }
     {
         Quote {
             bid: self.sum(QuoteSide::Bid),

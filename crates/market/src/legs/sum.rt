@@ -11,7 +11,8 @@ ghost use mathlib.Core.List.{List};
 ghost use mathlib.Core.Path.{_≡_};
 ghost use Rattle.std.specs.declared.option.Option.the-variants.{Some};
 ghost use Rattle.market.specs.LegInvariant.{leg-ok, optional-leg-ok, leg-price-ok};
-ghost use Rattle.market.specs.Legs.{legs-of, leg-price, leg-part, plus, legs-sum, sum-with};
+ghost use Rattle.market.specs.LegSteps.{sum-with};
+ghost use Rattle.market.specs.Legs.{legs-of, leg-price, leg-part, plus, legs-sum};
 ghost use Rattle.market.specs.Prices.{within};
 
 fn times(ratio: u8, price: i64) -> i64

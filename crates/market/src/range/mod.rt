@@ -4,12 +4,12 @@ ghost use mathlib.Core.Bool.{true};
 ghost use mathlib.Core.Path.{_≡_};
 ghost use lib.Signed.{leZ};
 ghost use Rattle.std.specs.declared.option.Option.the-variants.{Some};
-ghost use Rattle.market.specs.Prices.{within};
+ghost use Rattle.market.specs.Prices.{showable};
 
 pub mod permitted;
 
-// What a market shows to an order of one side, on turned prices: the best price against which the order competes,
-// and the price at which the other side of the market would trade with it now.
+// What a market shows to an order of one side, on turned prices: the shown bid and the shown offer, and for a sell order
+// the turned offer and the turned bid.
 #[derive(Clone, Copy)]
 pub struct TurnedQuote {
     pub floor: Option<i64>,
@@ -23,8 +23,9 @@ pub struct PermittedRange {
     pub floor: i64,
     pub contra: i64,
     pub initiating: i64,
-    ghost floor_within: { within 50000000 (Some floor) ≡ true },
-    ghost contra_within: { within 50000000 (Some contra) ≡ true },
-    ghost initiating_within: { within 50000000 (Some initiating) ≡ true },
-    ghost in_order: { leZ floor initiating ≡ true },
+    ghost floor_within: { showable (Some floor) ≡ true },
+    ghost contra_within: { showable (Some contra) ≡ true },
+    ghost initiating_within: { showable (Some initiating) ≡ true },
+    ghost from_floor: { leZ floor initiating ≡ true },
+    ghost to_contra: { leZ initiating contra ≡ true },
 }

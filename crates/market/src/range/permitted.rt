@@ -2,6 +2,7 @@
 use super::PermittedRange;
 use super::TurnedQuote;
 use crate::market::Market;
+use crate::prices::in_limits;
 use crate::quote::Quote;
 use crate::refusal::RangeRefusal;
 use crate::side::Side;
@@ -11,17 +12,15 @@ ghost use lib.Signed.{leZ};
 ghost use Rattle.std.specs.Options.{mapped};
 ghost use Rattle.std.specs.declared.option.Option.the-variants.{Some};
 ghost use Rattle.market.specs.Meaning.{Bounded};
-ghost use Rattle.market.specs.Prices.{within};
+ghost use Rattle.market.specs.Prices.{in-limits, showable};
 ghost use Rattle.market.specs.Range.{turned-quote, permitted, range-from, range-faced, range-answer, range-prices, lowest-price, highest-price};
 ghost use Rattle.market.specs.RangeLaws.{RangeLaws};
 ghost use Rattle.market.specs.Turned.{turned};
 
-const MOST: i64 = 40_000_000;
-
 fn turned_price(side: Side, price: Option<i64>) -> Option<i64>
-    requires { ⌜ within 50000000 price ≡ true ⌝ }
+    requires { ⌜ showable price ≡ true ⌝ }
     ensures value { λ r. ⌜ r ≡ mapped (turned side) price ⌝ }
-    ensures bound { λ r. ⌜ within 50000000 r ≡ true ⌝ }
+    ensures bound { λ r. ⌜ showable r ≡ true ⌝ }
 {
     match price {
         None => None,
@@ -33,8 +32,8 @@ fn turned_price(side: Side, price: Option<i64>) -> Option<i64>
 fn turn_quote(side: Side, quote: Quote) -> TurnedQuote
     requires { ⌜ Bounded quote ⌝ }
     ensures value { λ r. ⌜ r ≡ turned-quote side quote ⌝ }
-    ensures floor { λ r. ⌜ within 50000000 (r .floor) ≡ true ⌝ }
-    ensures contra { λ r. ⌜ within 50000000 (r .contra) ≡ true ⌝ }
+    ensures floor { λ r. ⌜ showable (r .floor) ≡ true ⌝ }
+    ensures contra { λ r. ⌜ showable (r .contra) ≡ true ⌝ }
 {
     let bid = turned_price(side, quote.bid);
     let offer = turned_price(side, quote.offer);
@@ -57,9 +56,9 @@ fn range_from(
     floor: i64,
     contra: i64,
 ) -> Result<PermittedRange, RangeRefusal>
-    requires limit { ⌜ within 50000000 (Some limit) ≡ true ⌝ }
-    requires floor { ⌜ within 50000000 (Some floor) ≡ true ⌝ }
-    requires contra { ⌜ within 50000000 (Some contra) ≡ true ⌝ }
+    requires limit { ⌜ showable (Some limit) ≡ true ⌝ }
+    requires floor { ⌜ showable (Some floor) ≡ true ⌝ }
+    requires contra { ⌜ showable (Some contra) ≡ true ⌝ }
     ensures { λ r. ⌜ range-answer r ≡ range-from side limit floor contra ⌝ }
 {
     let initiating = limit.min(contra);
@@ -77,29 +76,23 @@ fn range_from(
 // What a market shows to an order of this side, on turned prices.
 pub fn turned_quote<M: Market>(market: &M, side: Side) -> TurnedQuote
     ensures value { λ r. ⌜ r ≡ turned-quote side (M·Market .meaning .shows (M·Market .position (now (market .entry)))) ⌝ }
-    ensures floor { λ r. ⌜ within 50000000 (r .floor) ≡ true ⌝ }
-    ensures contra { λ r. ⌜ within 50000000 (r .contra) ≡ true ⌝ }
+    ensures floor { λ r. ⌜ showable (r .floor) ≡ true ⌝ }
+    ensures contra { λ r. ⌜ showable (r .contra) ≡ true ⌝ }
 {
     turn_quote(side, market.shown())
 }
 
 // The range of an order with this turned limit, if both sides show a price.
 fn range_faced(side: Side, limit: i64, quote: TurnedQuote) -> Result<PermittedRange, RangeRefusal>
-    requires limit { ⌜ within 50000000 (Some limit) ≡ true ⌝ }
-    requires floor { ⌜ within 50000000 (quote .floor) ≡ true ⌝ }
-    requires contra { ⌜ within 50000000 (quote .contra) ≡ true ⌝ }
+    requires limit { ⌜ showable (Some limit) ≡ true ⌝ }
+    requires floor { ⌜ showable (quote .floor) ≡ true ⌝ }
+    requires contra { ⌜ showable (quote .contra) ≡ true ⌝ }
     ensures { λ r. ⌜ range-answer r ≡ range-faced side limit (quote .floor) (quote .contra) ⌝ }
 {
     match (quote.floor, quote.contra) {
         (Some(floor), Some(contra)) => range_from(side, limit, floor, contra),
         _ => Err(RangeRefusal::SideShowsNoPrice),
     }
-}
-
-fn in_limits(price: i64) -> bool
-    ensures { λ r. ⌜ r ≡ within 40000000 (Some price) ⌝ }
-{
-    -MOST <= price && price <= MOST
 }
 
 // Each refusal in its order, or the range.

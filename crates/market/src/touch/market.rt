@@ -3,21 +3,20 @@ use super::Touch;
 use crate::fault::Cause;
 use crate::fault::Fault;
 use crate::market::Market;
+use crate::prices::in_limits;
 use crate::quote::Quote;
 ghost use mathlib.Core.Path.{_≡_};
 ghost use Rattle.market.specs.Meaning.{nothing-shown};
-ghost use Rattle.market.specs.Prices.{within, uncrossed};
+ghost use Rattle.market.specs.Prices.{in-limits, uncrossed};
 ghost use Rattle.market.specs.Touch.{touch-quote, touch-answer, touch-next, touch-meaning};
 ghost use Rattle.market.specs.declared.quote.Quote.{Quote};
 
-const MOST: i64 = 40_000_000;
-
 fn inside(price: Option<i64>) -> bool
-    ensures { λ r. ⌜ r ≡ within 40000000 price ⌝ }
+    ensures { λ r. ⌜ r ≡ in-limits price ⌝ }
 {
     match price {
         None => true,
-        Some(z) => -MOST <= z && z <= MOST,
+        Some(z) => in_limits(z),
     }
 }
 
@@ -79,7 +78,8 @@ pub impl Market for Touch as TouchMarket {
     ghost meaning = { touch-meaning };
 
     fn shown(&self) -> Quote
-        ensures { λ r. ⌜ r ≡ touch-quote (now (self .entry)) ⌝ }
+        ensures answer { λ r. ⌜ r ≡ touch-quote (now (self .entry)) ⌝ }
+        ensures leaves { λ _. ⌜ now (self .exit) ≡ now (self .entry) ⌝ }
     {
         Quote {
             bid: self.bid,

@@ -1,7 +1,7 @@
 // A touch: the best bid and offer of a book, told whole by each tick.
 ghost use mathlib.Core.Path.{_≡_};
 ghost use mathlib.Core.Bool.{true};
-ghost use Rattle.market.specs.Prices.{within};
+ghost use Rattle.market.specs.Prices.{in-limits};
 
 pub mod market;
 
@@ -9,6 +9,6 @@ pub mod market;
 pub struct Touch {
     bid: Option<i64>,
     offer: Option<i64>,
-    ghost bid_within: { within 40000000 bid ≡ true },
-    ghost offer_within: { within 40000000 offer ≡ true },
+    ghost bid_within: { in-limits bid ≡ true },
+    ghost offer_within: { in-limits offer ≡ true },
 }

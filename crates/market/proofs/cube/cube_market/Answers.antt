@@ -3,7 +3,7 @@ use mathlib.Core.Path.{_≡_, ap, _∙_}
 use Rattle.market.specs.Cube.{cube-meaning}
 use Rattle.market.specs.History.{after}
 use Rattle.market.specs.Legs.{legs-of}
-use Rattle.market.proofs.LastQuotes.{shows-last-quotes}
+use Rattle.market.proofs.CubeLastQuotes.{shows-last-quotes}
 use Rattle.market.proofs.cube.cube_market.Needs as need
 
 pub returns : need.returns

@@ -2,8 +2,8 @@
 use mathlib.Core.Path.{_≡_, ap, _∙_, sym}
 use native.Mathlib.Omega.{arith}
 use Rattle.std.specs.declared.option.Option.the-variants.{Some}
-use Rattle.market.specs.Legs.{sum-with}
-use Rattle.market.proofs.Bounds.{wider-at, fourth-within, third-within, second-within, legs-sum-is}
+use Rattle.market.specs.LegSteps.{sum-with}
+use Rattle.market.proofs.LegsBounded.{wider-at, fourth-within, third-within, second-within, legs-sum-is}
 use Rattle.market.proofs.legs.Legs.sum.Needs as need
 
 pub add-leg-third-requires : need.add-leg-third-requires

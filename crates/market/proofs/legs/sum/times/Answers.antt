@@ -6,7 +6,7 @@ use mir.Val.{SFits, toZ, ofZ}
 use Rattle.std.specs.declared.option.Option.the-variants.{Some}
 use Rattle.std.proofs.shelf.Signed.{toZ-ofZ}
 use Rattle.market.specs.Prices.{within}
-use Rattle.market.proofs.Bounds.{product-within, product-is, small-fits}
+use Rattle.market.proofs.LegsBounded.{product-within, product-is, small-fits}
 use Rattle.market.proofs.legs.sum.times.Needs as need
 
 pub mul-result : need.mul-result

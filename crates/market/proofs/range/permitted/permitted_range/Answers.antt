@@ -3,7 +3,7 @@ use mathlib.Core.Path.{_≡_, sym, subst}
 use borrow.Author.Needs.{needs}
 use Rattle.market.specs.Range.{range-answer, permitted}
 use Rattle.market.specs.RangeLaws.{RangeLaws}
-use Rattle.market.proofs.RangeAnswers.{range-laws}
+use Rattle.market.proofs.RangeLawful.{range-laws}
 use Rattle.market.proofs.range.permitted.permitted_range.Needs as need
 
 pub returns : need.returns

@@ -1,7 +1,7 @@
 use native.Mathlib.Omega.{arith}
 use Rattle.market.specs.Legs.{legs-sum, legs-of}
 use Rattle.market.specs.declared.legs.leg.QuoteSide.the-variants.{Bid, Offer}
-use Rattle.market.proofs.Bounds.{wider, legs-sum-within}
+use Rattle.market.proofs.LegsBounded.{wider, legs-sum-within}
 use Rattle.market.proofs.legs.market.LegsMarket.the-impl.Needs as need
 
 pub bounded-law : need.bounded-law

@@ -18,7 +18,7 @@ use Rattle.market.specs.declared.legs.leg.LegTick.{LegTick}
 use Rattle.market.specs.declared.quote.Quote.{Quote}
 use Rattle.market.specs.BetterOf.{better-quote}
 use Rattle.market.specs.Cube.{CubePosition, CubeTicks, cube-start, cube-meaning, cube-quote}
-use Rattle.market.specs.History.{after, last-or, book-quotes, leg-quotes, last-book, requoted, legs-from, last-legs}
+use Rattle.market.specs.History.{after, last-or, book-quotes, leg-quotes, last-book, with-last-quote, legs-from, last-legs}
 use Rattle.market.specs.Improve.{improved-quote}
 use Rattle.market.specs.Legs.{tick-answer, legs-answer, legs-next, quote-leg, quoted, smallest-ratio, legs-quote}
 use Rattle.market.specs.Meaning.{nothing-shown}
@@ -61,7 +61,7 @@ and-both a b e f = rw e f
 none-take : (count n : ℕ) (ls : List Leg) (t : LegTick) (ts : CubeTicks) → ((k : ℕ) → n ≤ k → (eqb (t .leg) k && isOk (tick-answer count t)) ≡ false) → legs-from count n ls (Right t ∷ ts) ≡ legs-from count n ls ts
 none-take count n [] t ts h = refl
 none-take count n (l ∷ ls) t ts h =
-    let here = ap (λ qs. requoted qs l) (not-taken count n t ts (h n (omega arith))) in
+    let here = ap (λ qs. with-last-quote qs l) (not-taken count n t ts (h n (omega arith))) in
     let rest = none-take count (suc n) ls t ts (λ k m. h k (omega arith)) in
     cc
 
@@ -73,13 +73,13 @@ one-takes count n (l ∷ ls) t ts h k = go (eqb (t .leg) n) refl (λ m. one-take
     go : (b : Bool) → eqb (t .leg) n ≡ b → (suc n ≤ t .leg → legs-from count (suc n) ls (Right t ∷ ts) ≡ legs-from count (suc n) (quote-leg (suc (t .leg) - suc n) (t .quote) ls) ts) → legs-from count n (l ∷ ls) (Right t ∷ ts) ≡ legs-from count n (quote-leg (suc (t .leg) - n) (t .quote) (l ∷ ls)) ts
     go true e later =
         let this : eqb (suc (t .leg) - n) 1 ≡ true = grind (arith, tells) in
-        let here = ap (λ qs. requoted qs l) (taken count n t ts (and-both _ _ e h)) in
+        let here = ap (λ qs. with-last-quote qs l) (taken count n t ts (and-both _ _ e h)) in
         let rest = none-take count (suc n) ls t ts (λ j m. let past : eqb (t .leg) j ≡ false = grind (arith, tells) in and-left (eqb (t .leg) j) (isOk (tick-answer count t)) past) in
         rw this cc
     go false e later =
         let that : eqb (suc (t .leg) - n) 1 ≡ false = grind (arith, tells) in
         let fewer : suc (t .leg) - n - 1 ≡ suc (t .leg) - suc n = omega arith in
-        let here = ap (λ qs. requoted qs l) (not-taken count n t ts (and-left _ _ e)) in
+        let here = ap (λ qs. with-last-quote qs l) (not-taken count n t ts (and-left _ _ e)) in
         let rest = later (grind (arith, tells)) in
         rw (that, fewer) cc
 
@@ -91,7 +91,7 @@ none-yet count n (l ∷ ls) = ap (λ rest. l ∷ rest) (none-yet count (suc n) l
 -- a tick for the book passes the legs by
 book-passes : (count n : ℕ) (ls : List Leg) (q : Quote) (ts : CubeTicks) → legs-from count n ls (Left q ∷ ts) ≡ legs-from count n ls ts
 book-passes count n [] q ts = refl
-book-passes count n (l ∷ ls) q ts = ap (λ rest. requoted (leg-quotes count n ts) l ∷ rest) (book-passes count (suc n) ls q ts)
+book-passes count n (l ∷ ls) q ts = ap (λ rest. with-last-quote (leg-quotes count n ts) l ∷ rest) (book-passes count (suc n) ls q ts)
 
 -- one tick for the book: it is the oldest of the book's quotes, if it is accepted
 book-more : (b q : Quote) (ts : CubeTicks) → last-or (touch-next b q) (book-quotes ts) ≡ last-or b (book-quotes (Left q ∷ ts))

@@ -23,7 +23,8 @@ use Rattle.market.specs.declared.legs.leg.QuoteSide.the-variants.{Bid, Offer}
 use Rattle.market.specs.declared.side.Side.{Side}
 use Rattle.market.specs.declared.side.Side.the-variants.{Buy, Sell}
 use Rattle.market.specs.LegInvariant.{leg-price-ok, leg-quote-ok, leg-ok, optional-leg-ok}
-use Rattle.market.specs.Legs.{leg-price, leg-part, plus, sum-with, legs-sum, legs-of, with-leg}
+use Rattle.market.specs.LegSteps.{sum-with}
+use Rattle.market.specs.Legs.{leg-price, leg-part, plus, legs-sum, legs-of, with-leg}
 use Rattle.market.specs.Turned.{turned}
 use Rattle.market.specs.Prices.{within}
 
