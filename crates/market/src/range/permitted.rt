@@ -24,7 +24,7 @@ fn turned_price(side: Side, price: Option<i64>) -> Option<i64>
 {
     match price {
         None => None,
-        Some(z) => Some(side.turn(z)),
+        Some(z) => Some(side.turn_shown(z)),
     }
 }
 
@@ -102,7 +102,7 @@ fn judged<M: Market>(market: &M, side: Side, limit: i64) -> Result<PermittedRang
     if !in_limits(limit) {
         return Err(RangeRefusal::PriceOutsideLimits);
     }
-    range_faced(side, side.turn(limit), turned_quote(market, side))
+    range_faced(side, side.turn_shown(limit), turned_quote(market, side))
 }
 
 // The range that a market permits an order of this side with this limit price, which may be any number.
@@ -142,20 +142,20 @@ impl PermittedRange {
     pub fn contra_price(&self) -> i64
         ensures { λ r. ⌜ r ≡ turned (now (self .entry) .side) (now (self .entry) .contra) ⌝ }
     {
-        self.side.turn(self.contra)
+        self.side.turn_shown(self.contra)
     }
 
     // The initiating price, not turned.
     pub fn initiating_price(&self) -> i64
         ensures { λ r. ⌜ r ≡ turned (now (self .entry) .side) (now (self .entry) .initiating) ⌝ }
     {
-        self.side.turn(self.initiating)
+        self.side.turn_shown(self.initiating)
     }
 
     // The floor, not turned.
     pub fn floor_price(&self) -> i64
         ensures { λ r. ⌜ r ≡ turned (now (self .entry) .side) (now (self .entry) .floor) ⌝ }
     {
-        self.side.turn(self.floor)
+        self.side.turn_shown(self.floor)
     }
 }
