@@ -1,0 +1,16 @@
+mod LevelShape
+mod LevelFacts
+mod ShareFacts
+mod SplitFacts
+mod RowLists
+mod ClassRows
+mod Mates
+mod LevelRows
+mod FillFacts
+mod Writes
+mod Puts
+mod Runs
+mod WalkSteps
+mod WalkFacts
+mod FillProved
+mod Places

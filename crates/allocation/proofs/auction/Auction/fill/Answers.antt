@@ -1,0 +1,28 @@
+use mathlib.Core.Bool.{true, false}
+use mathlib.Core.List.{List, _++_}
+use mathlib.Core.Path.{_≡_, sym, ap, subst, _∙_}
+use native.Mathlib.Omega.{arith}
+use lib.Dec.{ltb}
+use lib.ListN.{length, take, drop}
+use Rattle.std.proofs.shelf.Ways.{tells}
+use Rattle.allocation.specs.declared.fill.FillRow.{FillRow}
+use Rattle.allocation.specs.Auction.{auction-values, auction-fills, fill-answer, rows-after}
+use Rattle.allocation.specs.FillLaws.{FillLaws}
+use Rattle.allocation.specs.Rankings.{by-key}
+use Rattle.allocation.specs.Table.{standing}
+use Rattle.allocation.proofs.FillProved.{terms-hold, fill-list-lawful, answer-is, rows-are, written-front}
+use Rattle.allocation.proofs.auction.Auction.fill.Needs as need
+
+pub returns : need.returns
+returns g c =
+    let a = c .args .self .now in
+    let ahead = by-key (g .R·Ranking .ahead (c .args .ranking .now)) in
+    let fs : List FillRow = auction-fills ahead (auction-values a) in
+    let long : ltb (length (c .args .rows .now)) 129 ≡ false = grind (arith, tells) in
+    let laws = fill-list-lawful ahead (a .order) (a .floor) (a .initiating) (standing (a .table)) (terms-hold (a .order) (a .floor) (a .initiating) (a .terms)) (a .responses) in
+    let front : take (c .write-fills .result) (c .write-fills .last .rows) ≡ fs = written-front fs (c .args .rows .now) (c .write-fills .last .rows) (c .write-fills .result) (c .write-fills .ensures .count) (c .write-fills .ensures .rows) in
+    record {
+      answer = answer-is fs (c .args .rows .now) (c .write-fills .result) long (c .write-fills .ensures .count);
+      rows = rows-are fs (c .args .rows .now) (c .write-fills .last .rows) (c .write-fills .result) long (c .write-fills .ensures .count) (c .write-fills .ensures .rows);
+      laws = subst (FillLaws (a .order .side) (a .order .size) (a .floor) (a .initiating) (standing (a .table))) (sym front) laws;
+    }

@@ -1,0 +1,14 @@
+pub mod Causes
+pub mod Refusals
+pub mod Rankings
+pub mod Shares
+pub mod Splits
+pub mod Levels
+pub mod Arranged
+pub mod FillList
+pub mod FillLaws
+pub mod LevelSteps
+pub mod Walk
+pub mod Table
+pub mod AuctionInvariant
+pub mod Auction
