@@ -31,6 +31,7 @@ use Rattle.allocation.specs.FillList.{fills, fill-list, contra-terms}
 use Rattle.allocation.specs.Levels.{levels, contra-level, flat}
 use Rattle.allocation.specs.LevelSteps.{Sized, Sound}
 use Rattle.allocation.specs.Walk.{walked}
+use Rattle.allocation.proofs.AuctionKept.{both-left, both-right}
 use Rattle.allocation.proofs.FillFacts.{fills-lawful}
 use Rattle.allocation.proofs.LevelFacts.{holds-levels, ascending-levels, among-levels, shuffled-flat, flat-arranged, all-flat, shuffled-arranged}
 use Rattle.allocation.proofs.WalkFacts.{walked-is-fills, walkable-levels, few-levels}
@@ -51,14 +52,6 @@ walked-levels ahead side t xs ys size e =
     let long : length ys ≡ length xs = ap length e ∙ length-shuffled xs (arranged ahead xs) (shuffled-arranged ahead xs) in
     let few : length ls ≤ length ys + 1 = omega (arith, few-levels ahead own xs) in
     ap (λ zs. walked (length ys + 1) side t own true zs size 0) (sym flat-is) ∙ walked-is-fills (length ys + 1) side t own true ls size 0 few (walkable-levels ahead own xs)
-
-both-left : (a b : Bool) → (a && b) ≡ true → a ≡ true
-both-left true b h = refl
-both-left false b h = h
-
-both-right : (a b : Bool) → (a && b) ≡ true → b ≡ true
-both-right true b h = h
-both-right false b h = absurd (let z : _≡_ {A = ℕ} 0 1 = cc in omega arith)
 
 -- a price between two that can be turned can be turned
 between : (low z high : ℤ) → showable (Some low) ≡ true → showable (Some high) ≡ true → leZ low z ≡ true → leZ z high ≡ true → showable (Some z) ≡ true

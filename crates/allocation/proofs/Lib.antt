@@ -14,3 +14,4 @@ mod WalkSteps
 mod WalkFacts
 mod FillProved
 mod Places
+mod AuctionKept

@@ -1,10 +1,11 @@
 -- An auction's values.
 use Prim.Native.Nat.{ℕ}
-use mathlib.Core.Bool.{Bool, cond}
-use mathlib.Core.List.{List, [], _++_}
+use mathlib.Core.Bool.{Bool, cond, not, _&&_}
+use mathlib.Core.List.{List, [], _∷_, _++_}
 use lib.Dec.{ltb}
 use lib.IntN.{ℤ}
 use lib.ListN.{length, take, drop}
+use Rattle.std.specs.Options.{isSome}
 use Rattle.std.specs.Results.{Cases}
 use Rattle.std.specs.declared.option.Option.{Option}
 use Rattle.std.specs.declared.option.Option.the-variants.{None, Some}
@@ -16,10 +17,10 @@ use Rattle.allocation.specs.declared.order.PairedOrder.{PairedOrder}
 use Rattle.allocation.specs.declared.refusal.FillRefusal.{FillRefusal}
 use Rattle.allocation.specs.declared.refusal.FillRefusal.the-variants.{ListTooShort}
 use Rattle.allocation.specs.declared.response.Response.{Response}
-use Rattle.allocation.specs.AuctionInvariant.{terms-ok}
+use Rattle.allocation.specs.AuctionInvariant.{terms-ok, stored-ok, response-ok, arrival-free}
 use Rattle.allocation.specs.FillLaws.{FillLaws}
 use Rattle.allocation.specs.FillList.{fill-list}
-use Rattle.allocation.specs.Table.{standing}
+use Rattle.allocation.specs.Table.{standing, place-of, rewritten, without-place}
 
 -- The order with its guarantee as stored, the range, and the responses that stand; prices are turned.
 pub record AuctionValues : Type 0 where
@@ -50,3 +51,38 @@ rows-after fills rows = cond (ltb (length rows) 129) rows (fills ++ drop (length
 -- The rows that an accepted call wrote keep the laws of a fill list.
 abbrev pub Lawfully-filled : AuctionValues → Result ℕ FillRefusal → List FillRow → Type 0
 Lawfully-filled a r rows = Cases r (λ n. FillLaws (a .order .side) (a .order .size) (a .floor) (a .initiating) (a .stood) (take n rows)) (λ _. Unit {0})
+
+-- The same auction with other responses standing.
+abbrev pub with-stood : AuctionValues → List Response → AuctionValues
+with-stood a xs = record { order = a .order; floor = a .floor; initiating = a .initiating; stood = xs }
+
+-- A response may be stored if it may stand, its arrival number and its member's own number are not in use, and there is a
+-- place; with 16 members of 4 own numbers each there always is.
+abbrev pub may-store : AuctionValues → Response → Bool
+may-store a x =
+    response-ok (a .order .size) (a .floor) (a .initiating) x
+    && (arrival-free (x .arrival) (a .stood) && (not (isSome (place-of (x .member) (x .own) (a .stood))) && ltb (length (a .stood)) 64))
+
+-- A stored response stands behind the others; one that may not be stored changes nothing.
+abbrev pub stored : AuctionValues → Response → AuctionValues
+stored a x = cond (may-store a x) (with-stood a (a .stood ++ x ∷ [])) a
+
+-- A change gives the response of a member and own number a new size, price and arrival number, which is not in use.
+abbrev pub may-change : AuctionValues → Option ℕ → ℕ → ℤ → ℕ → Bool
+may-change a place size price arrival = isSome place && (stored-ok (a .order .size) (a .floor) (a .initiating) size price && arrival-free arrival (a .stood))
+
+-- It rewrites that one response and no other.
+abbrev pub changed-at : Option ℕ → AuctionValues → ℕ → ℤ → ℕ → AuctionValues
+changed-at None a size price arrival = a
+changed-at (Some i) a size price arrival = cond (may-change a (Some i) size price arrival) (with-stood a (rewritten i size price arrival (a .stood))) a
+
+abbrev pub changed : AuctionValues → ℕ → ℕ → ℕ → ℤ → ℕ → AuctionValues
+changed a member own size price arrival = changed-at (place-of member own (a .stood)) a size price arrival
+
+-- Withdrawing removes the response of a member and own number, if it stands.
+abbrev pub withdrawn-at : Option ℕ → AuctionValues → AuctionValues
+withdrawn-at None a = a
+withdrawn-at (Some i) a = with-stood a (without-place i (a .stood))
+
+abbrev pub withdrawn : AuctionValues → ℕ → ℕ → AuctionValues
+withdrawn a member own = withdrawn-at (place-of member own (a .stood)) a

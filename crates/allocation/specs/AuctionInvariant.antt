@@ -34,21 +34,24 @@ guarantee-ok g floor initiating = leZ (g .price) initiating && stop-ok (g .kind)
 abbrev pub terms-ok : PairedOrder → ℤ → ℤ → Bool
 terms-ok order floor initiating = from-to 1 100000 (order .size) && (range-ok floor initiating && guarantee-ok (order .guarantee) floor initiating)
 
--- A response that may stand: members are 1 to 16, own numbers 1 to 4, its size is 1 up to the order's, and its price is
--- in the range.
-abbrev pub response-ok : ℕ → ℤ → ℤ → Response → Bool
-response-ok size floor initiating x =
-    from-to 1 16 (x .member)
-    && (from-to 1 4 (x .own)
-    && (from-to 1 size (x .size)
-    && (leZ floor (x .price)
-    && leZ (x .price) initiating)))
+-- A response's size is 1 up to the order's, and its price is in the range.
+abbrev pub stored-ok : ℕ → ℤ → ℤ → ℕ → ℤ → Bool
+stored-ok most floor initiating size price = from-to 1 most size && (leZ floor price && leZ price initiating)
 
+-- A response that may stand: members are 1 to 16, own numbers 1 to 4.
+abbrev pub response-ok : ℕ → ℤ → ℤ → Response → Bool
+response-ok most floor initiating x = from-to 1 16 (x .member) && (from-to 1 4 (x .own) && stored-ok most floor initiating (x .size) (x .price))
+
+-- It holds of each.
 abbrev pub each : {X : Type 0} → (X → Bool) → List X → Bool
 each p [] = true
 each p (x ∷ xs) = p x && each p xs
 
+-- No response has this arrival number.
+abbrev pub arrival-free : ℕ → List Response → Bool
+arrival-free n xs = each (λ (y : Response). not (eqb n (y .arrival))) xs
+
 -- No two responses have the same arrival number.
 abbrev pub arrivals-apart : List Response → Bool
 arrivals-apart [] = true
-arrivals-apart (x ∷ xs) = each (λ (y : Response). not (eqb (x .arrival) (y .arrival))) xs && arrivals-apart xs
+arrivals-apart (x ∷ xs) = arrival-free (x .arrival) xs && arrivals-apart xs

@@ -29,7 +29,7 @@ pub impl Ranking for LargerSize as LargerSizeRanking {
         ensures { λ r. ⌜ r ≡ larger x y ⌝ }
     {
         if x.size == y.size {
-            x.arrival < y.arrival
+            EarlierArrival.is_ahead(x, y)
         } else {
             y.size < x.size
         }

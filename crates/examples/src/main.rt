@@ -1,4 +1,5 @@
 // Worked figures that are no theorems: each is computed by the library and held to what the rules give.
+mod fills;
 mod legs;
 mod quotes;
 mod ranges;
@@ -8,5 +9,6 @@ use std::io;
 fn main(rt: LibcRuntime) -> io::Result<()> {
     ranges::work(&rt)?;
     quotes::work(&rt)?;
-    legs::work(&rt)
+    legs::work(&rt)?;
+    fills::work(&rt)
 }

@@ -9,6 +9,7 @@ ghost use Rattle.allocation.specs.AuctionInvariant.{terms-ok, response-ok, eac
 
 pub mod fill;
 pub mod make;
+pub mod respond;
 
 #[derive(Clone, Copy)]
 pub struct Auction {
