@@ -1,11 +1,11 @@
 -- What the code writes is the fill list of the auction, and the fill list keeps its laws.
 use Prim.Native.Nat.{ℕ, _+_, _≤_, _<_}
-use mathlib.Core.Bool.{Bool, true, false, _&&_}
+use mathlib.Core.Bool.{Bool, true, false, not, _&&_}
 use mathlib.Core.List.{List, [], _∷_, _++_}
 use mathlib.Core.Path.{_≡_, refl, sym, ap, subst, _∙_}
 use native.Mathlib.Omega.{arith}
 use borrow.Author.Differences.{ints}
-use lib.Dec.{leb, ltb}
+use lib.Dec.{eqb, leb, ltb}
 use lib.IntN.{ℤ}
 use lib.ListN.{length, take, drop}
 use lib.Signed.{leZ, _≤ℤ_}
@@ -22,10 +22,11 @@ use Rattle.allocation.specs.declared.order.ContraTerms.{ContraTerms}
 use Rattle.allocation.specs.declared.order.GuaranteeKind.{GuaranteeKind}
 use Rattle.allocation.specs.declared.order.GuaranteeKind.the-variants.{SingleStop, AutoMatchLimit}
 use Rattle.allocation.specs.declared.order.PairedOrder.{PairedOrder}
+use Rattle.allocation.specs.declared.refusal.FillRefusal.the-variants.{ListTooShort}
 use Rattle.allocation.specs.declared.response.Response.{Response}
 use Rattle.allocation.specs.Arranged.{arranged}
 use Rattle.allocation.specs.Auction.{fill-answer, rows-after}
-use Rattle.allocation.specs.AuctionInvariant.{from-to, stop-ok, range-ok, guarantee-ok, terms-ok, response-ok, each}
+use Rattle.allocation.specs.AuctionInvariant.{from-to, stop-ok, range-ok, guarantee-ok, terms-ok, response-ok, each, arrival-free, arrivals-apart}
 use Rattle.allocation.specs.FillLaws.{FillLaws}
 use Rattle.allocation.specs.FillList.{fills, fill-list, contra-terms}
 use Rattle.allocation.specs.Levels.{levels, contra-level, flat}
@@ -33,7 +34,7 @@ use Rattle.allocation.specs.LevelSteps.{Sized, Sound}
 use Rattle.allocation.specs.Walk.{walked}
 use Rattle.allocation.proofs.AuctionKept.{both-left, both-right}
 use Rattle.allocation.proofs.FillFacts.{fills-lawful}
-use Rattle.allocation.proofs.LevelFacts.{holds-levels, ascending-levels, among-levels, shuffled-flat, flat-arranged, all-flat, shuffled-arranged}
+use Rattle.allocation.proofs.LevelFacts.{holds-levels, ascending-levels, among-levels, shuffled-flat, flat-arranged, all-flat, shuffled-arranged, Apart}
 use Rattle.allocation.proofs.WalkFacts.{walked-is-fills, walkable-levels, few-levels}
 
 pub sound-arranged : (ahead : Response → Response → Bool) (xs : List Response) → Sound xs → Sound (arranged ahead xs)
@@ -146,3 +147,17 @@ rows-are fs rows new n h e k = rw h (k ∙ ap (λ m. fs ++ drop m rows) e)
 
 pub written-front : (fs rows new : List FillRow) (n : ℕ) → n ≡ length fs → new ≡ fs ++ drop n rows → take n new ≡ fs
 written-front fs rows new n e k = ap (take n) k ∙ take-at fs (drop n rows) n (sym e)
+
+pub refused-is : (fs rows : List FillRow) → ltb (length rows) 129 ≡ true → (Err ListTooShort ≡ fill-answer fs rows) × (rows ≡ rows-after fs rows)
+refused-is fs rows h = (rw h, rw h)
+
+-- arrivals that a test finds apart are apart
+apart-each : (x : Response) (xs : List Response) → arrival-free (x .arrival) xs ≡ true → All (λ (y : Response). x .arrival ≡ y .arrival → ⊥) xs
+apart-each x [] h = tt
+apart-each x (y ∷ ys) h =
+    let here = both-left (not (eqb (x .arrival) (y .arrival))) (arrival-free (x .arrival) ys) h in
+    ((λ e. let z : _≡_ {A = ℕ} 0 1 = grind (arith, tells) in omega arith), apart-each x ys (both-right (not (eqb (x .arrival) (y .arrival))) (arrival-free (x .arrival) ys) h))
+
+pub are-apart : (xs : List Response) → arrivals-apart xs ≡ true → Apart xs
+are-apart [] h = tt
+are-apart (x ∷ xs) h = (apart-each x xs (both-left (arrival-free (x .arrival) xs) (arrivals-apart xs) h), are-apart xs (both-right (arrival-free (x .arrival) xs) (arrivals-apart xs) h))

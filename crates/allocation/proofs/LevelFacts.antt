@@ -21,7 +21,7 @@ use Rattle.allocation.specs.declared.response.Key.{Key}
 use Rattle.allocation.specs.declared.response.Response.{Response}
 use Rattle.allocation.specs.Arranged.{class-before, before, arranged}
 use Rattle.allocation.specs.Levels.{Level, put, join-as, join, empty-level, place, levels, flat}
-use Rattle.allocation.specs.Rankings.{by-key}
+use Rattle.allocation.specs.Rankings.{Ordered, by-key}
 use Rattle.allocation.proofs.LevelShape.{At, Holds, Ascending, Among}
 
 module _ (ahead : Response → Response → Bool) (x : Response) where
@@ -250,11 +250,6 @@ module _ (ahead : Response → Response → Bool) where
 
   pub all-flat : (P : Response → Type 0) (contra : ℤ) (xs : List Response) → All P xs → All P (flat (levels ahead contra xs))
   all-flat P contra xs a = all-shuffled P xs (flat (levels ahead contra xs)) (shuffled-flat contra xs) a
-
--- each is ahead of all that follow it
-abbrev pub Ordered : (Response → Response → Bool) → List Response → Type 0
-Ordered ahead [] = Unit {0}
-Ordered ahead (x ∷ xs) = All (λ (y : Response). ahead x y ≡ true) xs × Ordered ahead xs
 
 -- no two arrived together
 abbrev pub Apart : List Response → Type 0

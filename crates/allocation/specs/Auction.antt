@@ -7,6 +7,7 @@ use lib.IntN.{ℤ}
 use lib.ListN.{length, take, drop}
 use Rattle.std.specs.Options.{isSome}
 use Rattle.std.specs.Results.{Cases}
+use Rattle.std.specs.shelf.Lists.{All}
 use Rattle.std.specs.declared.option.Option.{Option}
 use Rattle.std.specs.declared.option.Option.the-variants.{None, Some}
 use Rattle.std.specs.declared.result.Result.{Result}
@@ -19,7 +20,9 @@ use Rattle.allocation.specs.declared.refusal.FillRefusal.the-variants.{ListToo
 use Rattle.allocation.specs.declared.response.Response.{Response}
 use Rattle.allocation.specs.AuctionInvariant.{terms-ok, stored-ok, response-ok, arrival-free}
 use Rattle.allocation.specs.FillLaws.{FillLaws}
-use Rattle.allocation.specs.FillList.{fill-list}
+use Rattle.allocation.specs.FillList.{fill-list, contra-terms}
+use Rattle.allocation.specs.Levels.{Level, levels, contra-level}
+use Rattle.allocation.specs.Rankings.{Ordered}
 use Rattle.allocation.specs.Table.{standing, place-of, rewritten, without-place}
 
 -- The order with its guarantee as stored, the range, and the responses that stand; prices are turned.
@@ -36,6 +39,10 @@ auction-values a = record { order = a .order; floor = a .floor; initiating = a .
 abbrev pub new-auction : PairedOrder → ℤ → ℤ → Option AuctionValues
 new-auction order floor initiating = cond (terms-ok order floor initiating) (Some (record { order = order; floor = floor; initiating = initiating; stood = [] })) None
 
+-- The levels of an auction under a ranking.
+abbrev pub auction-levels : (Response → Response → Bool) → AuctionValues → List Level
+auction-levels ahead a = levels ahead (contra-level (a .order .guarantee .kind) (contra-terms (a .order) (a .initiating) (length (a .stood)))) (a .stood)
+
 -- The fill list of an auction under a ranking.
 abbrev pub auction-fills : (Response → Response → Bool) → AuctionValues → List FillRow
 auction-fills ahead a = fill-list ahead (a .order) (a .initiating) (a .stood)
@@ -51,6 +58,10 @@ rows-after fills rows = cond (ltb (length rows) 129) rows (fills ++ drop (length
 -- The rows that an accepted call wrote keep the laws of a fill list.
 abbrev pub Lawfully-filled : AuctionValues → Result ℕ FillRefusal → List FillRow → Type 0
 Lawfully-filled a r rows = Cases r (λ n. FillLaws (a .order .side) (a .order .size) (a .floor) (a .initiating) (a .stood) (take n rows)) (λ _. Unit {0})
+
+-- At each level the customers stand in ranking order, and so do the others.
+abbrev pub Levels-in-ranking-order : (Response → Response → Bool) → AuctionValues → Type 0
+Levels-in-ranking-order ahead a = All (λ (l : Level). Ordered ahead (l .customers) × Ordered ahead (l .others)) (auction-levels ahead a)
 
 -- The same auction with other responses standing.
 abbrev pub with-stood : AuctionValues → List Response → AuctionValues

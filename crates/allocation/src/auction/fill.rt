@@ -16,7 +16,7 @@ ghost use mathlib.Core.List.{_++_};
 ghost use mathlib.Core.Path.{_≡_};
 ghost use Rattle.std.specs.declared.option.Option.the-variants.{Some};
 ghost use Rattle.market.specs.Prices.{showable};
-ghost use Rattle.allocation.specs.Auction.{auction-values, auction-fills, fill-answer, rows-after, Lawfully-filled};
+ghost use Rattle.allocation.specs.Auction.{auction-values, auction-fills, fill-answer, rows-after, Lawfully-filled, Levels-in-ranking-order};
 ghost use Rattle.allocation.specs.FillList.{contra-terms, fills};
 ghost use Rattle.allocation.specs.LevelSteps.{Sound};
 ghost use Rattle.allocation.specs.Levels.{contra-level, levels};
@@ -82,6 +82,7 @@ impl Auction {
     pub fn fill<R: Ranking>(&self, ranking: &R, rows: &mut [FillRow]) -> Result<usize, FillRefusal>
         ensures answer { λ r. ⌜ r ≡ fill-answer (auction-fills (by-key (R·Ranking .ahead (now (ranking .entry)))) (auction-values (now (self .entry)))) (now (rows .entry)) ⌝ }
         ensures rows { λ r. ⌜ now (rows .exit) ≡ rows-after (auction-fills (by-key (R·Ranking .ahead (now (ranking .entry)))) (auction-values (now (self .entry)))) (now (rows .entry)) ⌝ }
+        ensures ranked { λ _. ⌜ Levels-in-ranking-order (by-key (R·Ranking .ahead (now (ranking .entry)))) (auction-values (now (self .entry))) ⌝ }
         ensures laws { λ r. ⌜ Lawfully-filled (auction-values (now (self .entry))) r (now (rows .exit)) ⌝ }
     {
         if rows.len() < LEAST_ROWS {
