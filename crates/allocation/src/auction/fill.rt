@@ -21,6 +21,7 @@ ghost use Rattle.allocation.specs.FillList.{contra-terms, fills};
 ghost use Rattle.allocation.specs.LevelSteps.{Sound};
 ghost use Rattle.allocation.specs.Levels.{contra-level, levels};
 ghost use Rattle.allocation.specs.Rankings.{by-key};
+ghost use Rattle.allocation.specs.Splits.{guaranteed};
 ghost use Rattle.allocation.specs.Table.{standing};
 
 // The fewest rows that hold every fill list: one for each of 64 responses, and one for the contra at each of 65 prices.
@@ -47,6 +48,13 @@ fn share_out<R: Ranking>(
 }
 
 impl Auction {
+    // The contra's guaranteed share, in contracts.
+    pub fn guaranteed(&self) -> u32
+        ensures { λ r. ⌜ r ≡ guaranteed (now (self .entry) .order .size) (length (standing (now (self .entry) .table))) ⌝ }
+    {
+        guaranteed_share(self.order.size, self.table.len)
+    }
+
     // What the contra's part goes by.
     fn contra_terms(&self) -> ContraTerms
         ensures { λ r. ⌜ r ≡ contra-terms (now (self .entry) .order) (now (self .entry) .initiating) (length (standing (now (self .entry) .table))) ⌝ }
@@ -54,7 +62,7 @@ impl Auction {
         ContraTerms {
             guarantee: self.order.guarantee,
             initiating: self.initiating,
-            guaranteed: guaranteed_share(self.order.size, self.table.len),
+            guaranteed: self.guaranteed(),
         }
     }
 
