@@ -7,9 +7,9 @@ use native.Mathlib.Omega.{arith}
 use borrow.Author.Differences.{ints}
 use lib.Dec.{eqb, leb, ltb}
 use lib.IntN.{ℤ}
-use lib.ListN.{length, take, drop}
+use lib.ListN.{length, take, drop, length-append}
 use lib.Signed.{leZ, _≤ℤ_}
-use Rattle.std.proofs.shelf.Lists.{take-at}
+use Rattle.std.proofs.shelf.Lists.{take-at, drop-at}
 use Rattle.std.proofs.shelf.Sorted.{all-shuffled, length-shuffled}
 use Rattle.std.proofs.shelf.Ways.{tells}
 use Rattle.std.specs.declared.option.Option.the-variants.{Some}
@@ -28,7 +28,7 @@ use Rattle.allocation.specs.Arranged.{arranged}
 use Rattle.allocation.specs.Auction.{fill-answer, rows-after}
 use Rattle.allocation.specs.AuctionInvariant.{from-to, stop-ok, range-ok, guarantee-ok, terms-ok, response-ok, each, arrival-free, arrivals-apart}
 use Rattle.allocation.specs.FillLaws.{FillLaws}
-use Rattle.allocation.specs.FillList.{fills, fill-list, contra-terms}
+use Rattle.allocation.specs.FillList.{fills, fill-list, contra-terms, order-levels}
 use Rattle.allocation.specs.Levels.{levels, contra-level, flat}
 use Rattle.allocation.specs.LevelSteps.{Sized, Sound}
 use Rattle.allocation.specs.Walk.{walked}
@@ -147,6 +147,11 @@ rows-are fs rows new n h e k = rw h (k ∙ ap (λ m. fs ++ drop m rows) e)
 
 pub written-front : (fs rows new : List FillRow) (n : ℕ) → n ≡ length fs → new ≡ fs ++ drop n rows → take n new ≡ fs
 written-front fs rows new n e k = ap (take n) k ∙ take-at fs (drop n rows) n (sym e)
+
+pub written-past : (fs rows new : List FillRow) (n : ℕ) → n ≡ length fs → new ≡ fs ++ drop n rows → (n ≤ length new) × (drop n new ≡ drop n rows)
+written-past fs rows new n e k =
+    let long : length new ≡ length fs + length (drop n rows) = ap length k ∙ length-append fs (drop n rows) in
+    (omega arith, ap (drop n) k ∙ drop-at fs (drop n rows) n (sym e))
 
 pub refused-is : (fs rows : List FillRow) → ltb (length rows) 129 ≡ true → (Err ListTooShort ≡ fill-answer fs rows) × (rows ≡ rows-after fs rows)
 refused-is fs rows h = (rw h, rw h)

@@ -1,5 +1,6 @@
 -- An auction's values.
-use Prim.Native.Nat.{ℕ}
+use Prim.Native.Nat.{ℕ, _≤_, _<_}
+use mathlib.Core.Path.{_≡_}
 use mathlib.Core.Bool.{Bool, cond, not, _&&_}
 use mathlib.Core.List.{List, [], _∷_, _++_}
 use lib.Dec.{ltb}
@@ -16,13 +17,13 @@ use Rattle.allocation.specs.declared.auction.Auction.{Auction}
 use Rattle.allocation.specs.declared.fill.FillRow.{FillRow}
 use Rattle.allocation.specs.declared.order.PairedOrder.{PairedOrder}
 use Rattle.allocation.specs.declared.refusal.FillRefusal.{FillRefusal}
-use Rattle.allocation.specs.declared.refusal.FillRefusal.the-variants.{ListTooShort}
 use Rattle.allocation.specs.declared.response.Response.{Response}
 use Rattle.allocation.specs.AuctionInvariant.{terms-ok, stored-ok, response-ok, arrival-free}
 use Rattle.allocation.specs.FillLaws.{FillLaws}
-use Rattle.allocation.specs.FillList.{fill-list, contra-terms}
-use Rattle.allocation.specs.Levels.{Level, levels, contra-level}
+use Rattle.allocation.specs.FillList.{fill-list, order-levels}
+use Rattle.allocation.specs.Levels.{Level}
 use Rattle.allocation.specs.Rankings.{Ordered}
+use Rattle.allocation.specs.Refusals.{fill-refusal}
 use Rattle.allocation.specs.Table.{standing, place-of, rewritten, without-place}
 
 -- The order with its guarantee as stored, the range, and the responses that stand; prices are turned.
@@ -32,6 +33,7 @@ pub record AuctionValues : Type 0 where
   pub initiating : ℤ
   pub stood : List Response
 
+-- The values that an auction holds.
 abbrev pub auction-values : Auction → AuctionValues
 auction-values a = record { order = a .order; floor = a .floor; initiating = a .initiating; stood = standing (a .table) }
 
@@ -41,7 +43,7 @@ new-auction order floor initiating = cond (terms-ok order floor initiating) (Som
 
 -- The levels of an auction under a ranking.
 abbrev pub auction-levels : (Response → Response → Bool) → AuctionValues → List Level
-auction-levels ahead a = levels ahead (contra-level (a .order .guarantee .kind) (contra-terms (a .order) (a .initiating) (length (a .stood)))) (a .stood)
+auction-levels ahead a = order-levels ahead (a .order) (a .initiating) (a .stood)
 
 -- The fill list of an auction under a ranking.
 abbrev pub auction-fills : (Response → Response → Bool) → AuctionValues → List FillRow
@@ -49,15 +51,19 @@ auction-fills ahead a = fill-list ahead (a .order) (a .initiating) (a .stood)
 
 -- A list of rows under 129 is refusal 6; otherwise the answer is how many rows were written.
 abbrev pub fill-answer : List FillRow → List FillRow → Result ℕ FillRefusal
-fill-answer fills rows = cond (ltb (length rows) 129) (Err ListTooShort) (Ok (length fills))
+fill-answer fills rows = cond (ltb (length rows) 129) (Err (fill-refusal 6)) (Ok (length fills))
 
 -- The rows are written from the first on, and those past them stay; a refusal writes none.
 abbrev pub rows-after : List FillRow → List FillRow → List FillRow
 rows-after fills rows = cond (ltb (length rows) 129) rows (fills ++ drop (length fills) rows)
 
--- The rows that an accepted call wrote keep the laws of a fill list.
-abbrev pub Lawfully-filled : AuctionValues → Result ℕ FillRefusal → List FillRow → Type 0
-Lawfully-filled a r rows = Cases r (λ n. FillLaws (a .order .side) (a .order .size) (a .floor) (a .initiating) (a .stood) (take n rows)) (λ _. Unit {0})
+-- The rows that an accepted call wrote, as many as it answered, keep the laws of a fill list, and the rows past them are
+-- as they were. A refused call had a list under 129 rows, and wrote nothing.
+abbrev pub Lawfully-filled : AuctionValues → Result ℕ FillRefusal → List FillRow → List FillRow → Type 0
+Lawfully-filled a r before after =
+    Cases r
+    (λ n. FillLaws (a .order .side) (a .order .size) (a .floor) (a .initiating) (a .stood) (take n after) × (n ≤ length after) × (drop n after ≡ drop n before) × (129 ≤ length before))
+    (λ _. (after ≡ before) × (length before < 129))
 
 -- At each level the customers stand in ranking order, and so do the others.
 abbrev pub Levels-in-ranking-order : (Response → Response → Bool) → AuctionValues → Type 0
@@ -67,8 +73,8 @@ Levels-in-ranking-order ahead a = All (λ (l : Level). Ordered ahead (l .custome
 abbrev pub with-stood : AuctionValues → List Response → AuctionValues
 with-stood a xs = record { order = a .order; floor = a .floor; initiating = a .initiating; stood = xs }
 
--- A response may be stored if it may stand, its arrival number and its member's own number are not in use, and there is a
--- place; with 16 members of 4 own numbers each there always is.
+-- A response may be stored if it may stand, its arrival number and its member's own number are not in use, and fewer
+-- than 64 stand (16 members with 4 own numbers each make no more).
 abbrev pub may-store : AuctionValues → Response → Bool
 may-store a x =
     response-ok (a .order .size) (a .floor) (a .initiating) x
@@ -87,6 +93,7 @@ abbrev pub changed-at : Option ℕ → AuctionValues → ℕ → ℤ → ℕ →
 changed-at None a size price arrival = a
 changed-at (Some i) a size price arrival = cond (may-change a (Some i) size price arrival) (with-stood a (rewritten i size price arrival (a .stood))) a
 
+-- The response that is changed, by member and own number.
 abbrev pub changed : AuctionValues → ℕ → ℕ → ℕ → ℤ → ℕ → AuctionValues
 changed a member own size price arrival = changed-at (place-of member own (a .stood)) a size price arrival
 
@@ -95,5 +102,6 @@ abbrev pub withdrawn-at : Option ℕ → AuctionValues → AuctionValues
 withdrawn-at None a = a
 withdrawn-at (Some i) a = with-stood a (without-place i (a .stood))
 
+-- The response that is withdrawn, by member and own number.
 abbrev pub withdrawn : AuctionValues → ℕ → ℕ → AuctionValues
 withdrawn a member own = withdrawn-at (place-of member own (a .stood)) a

@@ -17,6 +17,7 @@ use Rattle.allocation.specs.declared.response.Class.the-variants.{Customer, Ot
 use Rattle.allocation.specs.declared.response.Kind.{Kind}
 use Rattle.allocation.specs.declared.response.Kind.the-variants.{Plain}
 use Rattle.allocation.specs.declared.response.Response.{Response}
+use Rattle.allocation.specs.Classes.{class-number}
 use Rattle.allocation.specs.Shares.{total}
 
 -- What a row tells of a response besides its fill.
@@ -28,6 +29,7 @@ pub record Told : Type 0 where
   pub kind : Kind
   pub size : ℕ
 
+-- What a response has to be listed with; its price is turned back.
 abbrev pub response-told : Side → Response → Told
 response-told side x = record { member = x .member; own = x .own; price = turned side (x .price); class = x .class; kind = x .kind; size = x .size }
 
@@ -39,19 +41,24 @@ row-told f = record { member = f .member; own = f .own; price = f .price; class 
 abbrev pub of-response : FillRow → Bool
 of-response f = ltb 0 (f .member)
 
+-- Those of a list that pass a test, in their order.
 abbrev pub kept : {X : Type 0} → (X → Bool) → List X → List X
 kept p [] = []
 kept p (x ∷ xs) = cond (p x) (x ∷ kept p xs) (kept p xs)
 
+-- The contracts filled in these rows.
 abbrev pub filled-in : List FillRow → ℕ
 filled-in fs = total (map (λ (f : FillRow). f .filled) fs)
 
+-- The sizes of these rows: filled and left together.
 abbrev pub size-in : List FillRow → ℕ
 size-in fs = total (map (λ (f : FillRow). f .filled + f .left) fs)
 
+-- Neither price is below the other.
 abbrev pub same-price : ℤ → ℤ → Bool
 same-price a b = not (ltZ a b) && not (ltZ b a)
 
+-- Both are customers, or both are others.
 abbrev pub same-class : Class → Class → Bool
 same-class Customer Customer = true
 same-class Customer Other = false
@@ -66,10 +73,10 @@ classmates f fs = kept (λ (g : FillRow). of-response g && (same-class (f .class
 abbrev pub Pro-rata : ℕ → ℕ → FillRow → Type 0
 Pro-rata k t f = (f .filled ≡ k * (f .filled + f .left) / t) ⊎ (f .filled ≡ k * (f .filled + f .left) / t + 1)
 
--- A row that is the contra's.
+-- A row that is the contra's, whose member is 0.
 pub record ContraRow (f : FillRow) : Type 0 where
   pub no-number : f .own ≡ 0
-  pub as-other : f .class ≡ Other
+  pub as-other : class-number (f .class) ≡ 1
   pub as-plain : f .kind ≡ Plain
   pub some-filled : 0 < f .filled
   pub none-left : f .left ≡ 0

@@ -31,6 +31,7 @@ class-rows side (x ∷ xs) (f ∷ fs) = fill-row side x f ∷ class-rows side xs
 abbrev pub shared-rows : Side → ℕ → List Response → List FillRow
 shared-rows side k xs = class-rows side xs (shared k (sizes xs))
 
+-- What the contra got at a price.
 abbrev pub contra-row : Side → ℤ → ℕ → FillRow
 contra-row side price f = record { price = turned side price; member = 0; own = 0; class = Other; kind = Plain; filled = f; left = 0 }
 
@@ -38,6 +39,7 @@ contra-row side price f = record { price = turned side price; member = 0; own = 
 abbrev pub contra-rows : Side → ℤ → ℕ → List FillRow
 contra-rows side price f = cond (ltb 0 f) (contra-row side price f ∷ []) []
 
+-- A level's rows: customers, contra, others.
 abbrev pub level-rows : Side → Level → Split → List FillRow
 level-rows side l s = shared-rows side (s .customers) (l .customers) ++ (contra-rows side (l .price) (s .contra) ++ shared-rows side (s .others) (l .others))
 
@@ -54,10 +56,11 @@ fills side t (l ∷ ls) r m = level-rows side l (split-at t l r m) ++ fills side
 abbrev pub contra-terms : PairedOrder → ℤ → ℕ → ContraTerms
 contra-terms order initiating standing = record { guarantee = order .guarantee; initiating = initiating; guaranteed = guaranteed (order .size) standing }
 
+-- The levels of an order's responses and of the contra's own price.
+abbrev pub order-levels : (Response → Response → Bool) → PairedOrder → ℤ → List Response → List Level
+order-levels ahead order initiating standing = levels ahead (contra-level (order .guarantee .kind) (contra-terms order initiating (length standing))) standing
+
 -- The fill list of an order, whose prices are turned and whose guarantee is as stored, with these responses standing.
 abbrev pub fill-list : (Response → Response → Bool) → PairedOrder → ℤ → List Response → List FillRow
 fill-list ahead order initiating standing =
-    fills (order .side) (contra-terms order initiating (length standing))
-    (levels ahead (contra-level (order .guarantee .kind) (contra-terms order initiating (length standing))) standing)
-    (order .size)
-    0
+    fills (order .side) (contra-terms order initiating (length standing)) (order-levels ahead order initiating standing) (order .size) 0

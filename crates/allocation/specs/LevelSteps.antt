@@ -40,6 +40,7 @@ counted-level price c o xs = record { price = price; customers = take c xs; othe
 abbrev pub front-level : ℤ → List Response → Level
 front-level price xs = counted-level price (leading price Customer xs) (leading price Other (drop (leading price Customer xs) xs)) xs
 
+-- The level that a plan counts off.
 abbrev pub planned-level : LevelPlan → List Response → Level
 planned-level p xs = counted-level (p .price) (p .customers) (p .others) xs
 
@@ -51,5 +52,6 @@ plan-rows p = p .customers + (min (p .split .contra) 1 + p .others)
 abbrev pub Sized : Response → Type 0
 Sized x = (1 ≤ x .size) × (x .size ≤ 100000) × (showable (Some (x .price)) ≡ true)
 
+-- At most 64 of them, each sized.
 abbrev pub Sound : List Response → Type 0
 Sound xs = (length xs ≤ 64) × All Sized xs

@@ -1,4 +1,5 @@
 pub mod Causes
+pub mod Classes
 pub mod Refusals
 pub mod Rankings
 pub mod Shares

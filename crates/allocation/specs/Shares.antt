@@ -5,9 +5,11 @@ use mathlib.Core.List.{List, [], _∷_, map}
 use lib.Dec.{leb}
 use Rattle.allocation.specs.declared.response.Response.{Response}
 
+-- The sizes of responses.
 abbrev pub sizes : List Response → List ℕ
 sizes xs = map (λ (x : Response). x .size) xs
 
+-- Added up.
 abbrev pub total : List ℕ → ℕ
 total [] = 0
 total (s ∷ ss) = s + total ss

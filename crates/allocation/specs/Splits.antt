@@ -28,6 +28,7 @@ matched w n = record { contra = w; others = n }
 abbrev pub clean-up : ℕ → ℕ → ℕ → Rest
 clean-up r g n = record { contra = min r g + (r - min r g - min (r - min r g) n); others = min (r - min r g) n }
 
+-- Neither gets any.
 abbrev pub nothing-trades : Rest
 nothing-trades = record { contra = 0; others = 0 }
 
@@ -60,7 +61,7 @@ abbrev pub rest-by : GuaranteeKind → ContraTerms → ℤ → ℕ → ℕ → �
 rest-by SingleStop t price r m c n = stop-rest t price r n
 rest-by AutoMatchLimit t price r m c n = match-rest t price r m c n
 
--- Customers, of size c together, share first; the contra and the others go by what is then left.
+-- What the customers get, with what the contra and the others get of the rest.
 abbrev pub with-customers : ℕ → Rest → Split
 with-customers k rest = record { customers = k; contra = rest .contra; others = rest .others }
 

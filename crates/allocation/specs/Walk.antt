@@ -39,10 +39,11 @@ walked (suc turns) side t own pending xs r m =
     []
     (level-rows side l (split-at t l r m) ++ walked turns side t own (still-pending pending own (l .price)) (behind-level l xs) (r - taken (split-at t l r m)) (m + split-at t l r m .contra))
 
--- The level that a walk is at, and how it is split.
+-- The level that a walk is at.
 abbrev pub walk-level : ContraTerms → Walk → List Response → Level
 walk-level t w xs = front-level (next-price (w .pending) (contra-level (t .guarantee .kind) t) (drop (w .next) xs)) (drop (w .next) xs)
 
+-- How that level is split.
 abbrev pub walk-split : ContraTerms → Walk → List Response → Split
 walk-split t w xs = split-at t (walk-level t w xs) (w .left) (w .«so_far»)
 

@@ -15,7 +15,7 @@ pub struct Guarantee {
     pub price: i64,
 }
 
-// The order with its guarantee.
+// The order with its guarantee. In an auction the limit and the guarantee's price are turned.
 #[derive(Clone, Copy)]
 pub struct PairedOrder {
     pub side: Side,

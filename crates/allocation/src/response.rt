@@ -1,6 +1,8 @@
 // A response as it stands in an auction.
+ghost use mathlib.Core.Path.{_≡_};
+ghost use Rattle.allocation.specs.Classes.{class-number};
 
-// A sealed response may be changed and withdrawn; a plain one may not.
+// In the room a sealed response may be changed and withdrawn, and a plain one may not.
 #[derive(Clone, Copy)]
 pub enum Kind {
     Sealed,
@@ -12,6 +14,18 @@ pub enum Kind {
 pub enum Class {
     Customer,
     Other,
+}
+
+impl Class {
+    // The number by which the venue knows the class.
+    pub fn number(self) -> u8
+        ensures { λ r. ⌜ r ≡ class-number self ⌝ }
+    {
+        match self {
+            Class::Customer => 0,
+            Class::Other => 1,
+        }
+    }
 }
 
 // The stored price is turned. Arrivals count up in each auction, over responses and changes together.

@@ -29,23 +29,23 @@ fn order(side: Side, size: u32, kind: GuaranteeKind, price: i64) -> PairedOrder 
     PairedOrder {
         side,
         size,
-        limit: 310,
+        limit: 300,
         guarantee: Guarantee { kind, price },
     }
 }
 
-// Member, class, size and turned price; the arrival number is the place in the list.
-type Told = (u8, Class, u32, i64);
+// Member, own number, class, size and turned price; the arrival number is the place in the list, from 1.
+type Told = (u8, u8, Class, u32, i64);
 
 fn store_all(auction: &mut Auction, told: &[Told]) -> bool {
     let mut all = true;
     let mut arrival = 0u32;
     for response in told {
-        let (member, class, size, price) = *response;
+        let (member, own, class, size, price) = *response;
         arrival = arrival.saturating_add(1);
         all = auction.store(Response {
             member,
-            own: 1,
+            own,
             kind: Kind::Sealed,
             class,
             size,
@@ -117,42 +117,44 @@ fn work_one<R: Ranking>(
 }
 
 const AT_STOP: [Told; 3] = [
-    (2, Class::Customer, 30, 300),
-    (3, Class::Other, 50, 300),
-    (4, Class::Other, 20, 300),
+    (2, 1, Class::Customer, 30, 300),
+    (3, 1, Class::Other, 50, 300),
+    (4, 1, Class::Other, 20, 300),
 ];
 
 const ODD: [Told; 3] = [
-    (2, Class::Other, 10, 296),
-    (3, Class::Other, 20, 296),
-    (4, Class::Other, 10, 296),
+    (2, 1, Class::Other, 10, 296),
+    (3, 1, Class::Other, 20, 296),
+    (4, 1, Class::Other, 10, 296),
 ];
 
 const THREE_ALIKE: [Told; 3] = [
-    (2, Class::Other, 20, 297),
-    (3, Class::Other, 20, 297),
-    (4, Class::Other, 20, 297),
+    (2, 1, Class::Other, 20, 297),
+    (3, 1, Class::Other, 20, 297),
+    (4, 1, Class::Other, 20, 297),
 ];
 
 const BEYOND: [Told; 3] = [
-    (2, Class::Other, 30, 302),
-    (3, Class::Other, 60, 298),
-    (4, Class::Customer, 10, 301),
+    (2, 1, Class::Other, 30, 302),
+    (3, 1, Class::Other, 60, 298),
+    (4, 1, Class::Customer, 10, 301),
 ];
 
-const TWICE: [Told; 2] = [(2, Class::Other, 60, 298), (3, Class::Other, 10, 298)];
+const TWO_OF_ONE_FIRM: [Told; 2] = [(2, 1, Class::Other, 60, 298), (2, 2, Class::Other, 10, 298)];
+
+const BELOW_298: [Told; 2] = [(2, 1, Class::Other, 20, 295), (3, 1, Class::Other, 10, 301)];
 
 const MATCHED: [Told; 4] = [
-    (2, Class::Customer, 10, 298),
-    (3, Class::Other, 20, 298),
-    (4, Class::Other, 10, 301),
-    (5, Class::Customer, 100, 304),
+    (2, 1, Class::Customer, 10, 298),
+    (3, 1, Class::Other, 20, 298),
+    (4, 1, Class::Other, 10, 301),
+    (5, 1, Class::Customer, 100, 304),
 ];
 
 const SOLD: [Told; 3] = [
-    (2, Class::Customer, 30, -300),
-    (3, Class::Other, 50, -300),
-    (4, Class::Other, 20, -302),
+    (2, 1, Class::Customer, 30, -300),
+    (3, 1, Class::Other, 50, -300),
+    (4, 1, Class::Other, 20, -302),
 ];
 
 fn stops(rt: &LibcRuntime) -> io::Result<()> {
@@ -162,7 +164,7 @@ fn stops(rt: &LibcRuntime) -> io::Result<()> {
     let hundred = order(Side::Buy, 100, stop, 300);
     work_one(
         rt,
-        "stop 300, at it a customer and two others",
+        "stop 300, at it a customer and two others: the contra has 40% of the order, and not of what is left",
         &early,
         hundred,
         294,
@@ -198,12 +200,12 @@ fn stops(rt: &LibcRuntime) -> io::Result<()> {
     )?;
     work_one(
         rt,
-        "40% with two responses",
+        "40%, and not 50%, with two responses of one firm",
         &early,
         order(Side::Buy, 99, stop, 298),
         294,
         304,
-        &TWICE,
+        &TWO_OF_ONE_FIRM,
     )?;
     work_one(
         rt,
@@ -212,7 +214,7 @@ fn stops(rt: &LibcRuntime) -> io::Result<()> {
         order(Side::Buy, 99, stop, 298),
         294,
         304,
-        &TWICE[0..1],
+        &TWO_OF_ONE_FIRM[0..1],
     )
 }
 
@@ -231,12 +233,12 @@ fn matches(rt: &LibcRuntime) -> io::Result<()> {
     )?;
     work_one(
         rt,
-        "auto-match limit below a floor that has risen",
+        "auto-match limit 290, below a floor that has risen to 294: matched from the floor on",
         &early,
         order(Side::Buy, 100, limit, 290),
         294,
         304,
-        &MATCHED,
+        &BELOW_298,
     )?;
     work_one(
         rt,
@@ -258,18 +260,65 @@ fn edges(rt: &LibcRuntime) -> io::Result<()> {
     let below = Auction::new(order(Side::Buy, 100, stop, 293), 294, 304).is_none();
     let above = Auction::new(order(Side::Buy, 100, stop, 305), 294, 304).is_none();
     let empty = Auction::new(order(Side::Buy, 0, stop, 300), 294, 304).is_none();
-    println!(rt, "  {below} {above} {empty}")?;
-    println!(rt, "a list of 128 rows is too short")?;
-    let Some(auction) = Auction::new(order(Side::Buy, 100, stop, 300), 294, 304) else {
-        return println!(rt, "  NO AUCTION HAS THESE TERMS");
+    println!(rt, "  {below} {above} {empty}")
+}
+
+// 64 responses at 64 prices below the initiating price, each matched by the contra, which then cleans up.
+fn full_table() -> Option<Auction> {
+    let mut auction = Auction::new(
+        order(Side::Buy, 100_000, GuaranteeKind::AutoMatchLimit, 200),
+        200,
+        304,
+    )?;
+    for i in 0..64u32 {
+        let response = Response {
+            member: (i / 4 + 1) as u8,
+            own: (i % 4 + 1) as u8,
+            kind: Kind::Plain,
+            class: Class::Other,
+            size: 1,
+            price: 200 + i64::from(i),
+            arrival: i + 1,
+        };
+        if !auction.store(response) {
+            return None;
+        }
+    }
+    Some(auction)
+}
+
+fn added(rows: &[FillRow]) -> u32 {
+    let mut sum = 0u32;
+    for row in rows {
+        sum = sum.saturating_add(row.filled);
+    }
+    sum
+}
+
+fn lengths(rt: &LibcRuntime) -> io::Result<()> {
+    println!(
+        rt,
+        "64 responses at 64 prices, and the contra at each and at the end"
+    )?;
+    let Some(auction) = full_table() else {
+        return println!(rt, "  NOT ALL STORED");
     };
-    let mut rows = [BLANK; 128];
-    match auction.fill(&EarlierArrival, &mut rows) {
-        Ok(_) => println!(rt, "  ACCEPTED"),
+    let mut short = [BLANK; 128];
+    match auction.fill(&EarlierArrival, &mut short) {
+        Ok(_) => println!(rt, "  ACCEPTED")?,
         Err(refusal) => {
             let number = refusal.number();
-            println!(rt, "  refusal {number}")
+            let written = added(&short);
+            println!(rt, "  in 128 rows: refusal {number}, and {written} written")?;
         }
+    }
+    let mut rows = [BLANK; 129];
+    match auction.fill(&EarlierArrival, &mut rows) {
+        Ok(count) => {
+            let all = added(&rows);
+            println!(rt, "  in 129 rows: {count} rows, {all} contracts in all")
+        }
+        Err(_) => println!(rt, "  REFUSED"),
     }
 }
 
@@ -306,5 +355,6 @@ pub fn work(rt: &LibcRuntime) -> io::Result<()> {
     stops(rt)?;
     matches(rt)?;
     changes(rt)?;
-    edges(rt)
+    edges(rt)?;
+    lengths(rt)
 }

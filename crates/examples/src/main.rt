@@ -1,5 +1,6 @@
 // Worked figures that are no theorems: each is computed by the library and held to what the rules give.
 mod fills;
+mod intervals;
 mod legs;
 mod quotes;
 mod ranges;
@@ -10,5 +11,6 @@ fn main(rt: LibcRuntime) -> io::Result<()> {
     ranges::work(&rt)?;
     quotes::work(&rt)?;
     legs::work(&rt)?;
+    intervals::work(&rt)?;
     fills::work(&rt)
 }

@@ -80,6 +80,7 @@ Range-of-the-shared-order =
     permitted Buy (pos 310) (cube-meaning .shows (after cube-meaning (cube-start (bought-and-sold 1 2)) (leg-ticks-then (record { bid = Some (pos 293); offer = None }))))
     ≡ Ok (record { side = Buy; floor = pos 294; contra = pos 304; initiating = pos 304 })
 
+-- The order to buy, of this size and with this guarantee.
 abbrev pub order-of : ℕ → GuaranteeKind → ℕ → PairedOrder
 order-of size kind price = record { side = Buy; size = size; limit = pos 310; guarantee = record { kind = kind; price = pos price } }
 

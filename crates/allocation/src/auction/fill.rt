@@ -91,7 +91,7 @@ impl Auction {
         ensures answer { λ r. ⌜ r ≡ fill-answer (auction-fills (by-key (R·Ranking .ahead (now (ranking .entry)))) (auction-values (now (self .entry)))) (now (rows .entry)) ⌝ }
         ensures rows { λ r. ⌜ now (rows .exit) ≡ rows-after (auction-fills (by-key (R·Ranking .ahead (now (ranking .entry)))) (auction-values (now (self .entry)))) (now (rows .entry)) ⌝ }
         ensures ranked { λ _. ⌜ Levels-in-ranking-order (by-key (R·Ranking .ahead (now (ranking .entry)))) (auction-values (now (self .entry))) ⌝ }
-        ensures laws { λ r. ⌜ Lawfully-filled (auction-values (now (self .entry))) r (now (rows .exit)) ⌝ }
+        ensures laws { λ r. ⌜ Lawfully-filled (auction-values (now (self .entry))) r (now (rows .entry)) (now (rows .exit)) ⌝ }
     {
         if rows.len() < LEAST_ROWS {
             return Err(FillRefusal::ListTooShort);

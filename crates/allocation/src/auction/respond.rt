@@ -1,4 +1,5 @@
-// Storing, changing and withdrawing the responses of an auction.
+// Storing, changing and withdrawing the responses of an auction, as values: who may do so, and at which stored price and
+// size, is decided above.
 use super::Auction;
 use crate::response::Response;
 ghost use Prim.Native.Nat.{_≤_};

@@ -1,6 +1,6 @@
 use mathlib.Core.Bool.{true, false}
 use mathlib.Core.List.{List, _++_}
-use mathlib.Core.Path.{_≡_, sym, ap, subst, _∙_}
+use mathlib.Core.Path.{_≡_, refl, sym, ap, subst, _∙_}
 use native.Mathlib.Omega.{arith}
 use lib.Dec.{ltb}
 use lib.ListN.{length, take, drop}
@@ -10,7 +10,7 @@ use Rattle.allocation.specs.Auction.{auction-values, auction-fills, fill-answe
 use Rattle.allocation.specs.FillLaws.{FillLaws}
 use Rattle.allocation.specs.Rankings.{by-key}
 use Rattle.allocation.specs.Table.{standing}
-use Rattle.allocation.proofs.FillProved.{terms-hold, fill-list-lawful, answer-is, rows-are, written-front, refused-is, are-apart}
+use Rattle.allocation.proofs.FillProved.{terms-hold, fill-list-lawful, answer-is, rows-are, written-front, written-past, refused-is, are-apart}
 use Rattle.allocation.proofs.LevelFacts.{ordered-classes}
 use Rattle.allocation.proofs.auction.Auction.fill.Needs as need
 
@@ -24,7 +24,7 @@ returns-then-rows-lt-LEAST-ROWS g c =
       answer = refused .0;
       rows = refused .1;
       ranked = ordered-classes rank (g .R·Ranking·met .«one_ahead» (c .args .ranking .now)) (g .R·Ranking·met .«carries_on» (c .args .ranking .now)) _ (standing (a .table)) (are-apart (standing (a .table)) (a .apart));
-      laws = tt;
+      laws = (refl, omega arith);
     }
 
 pub returns : need.returns
@@ -36,9 +36,10 @@ returns g c =
     let laws = fill-list-lawful ahead (a .order) (a .floor) (a .initiating) (standing (a .table)) (terms-hold (a .order) (a .floor) (a .initiating) (a .terms)) (a .responses) in
     let front : take (c .write-fills .result) (c .write-fills .last .rows) ≡ fs = written-front fs (c .args .rows .now) (c .write-fills .last .rows) (c .write-fills .result) (c .write-fills .ensures .count) (c .write-fills .ensures .rows) in
     let rank = g .R·Ranking .ahead (c .args .ranking .now) in
+    let past = written-past fs (c .args .rows .now) (c .write-fills .last .rows) (c .write-fills .result) (c .write-fills .ensures .count) (c .write-fills .ensures .rows) in
     record {
       ranked = ordered-classes rank (g .R·Ranking·met .«one_ahead» (c .args .ranking .now)) (g .R·Ranking·met .«carries_on» (c .args .ranking .now)) _ (standing (a .table)) (are-apart (standing (a .table)) (a .apart));
       answer = answer-is fs (c .args .rows .now) (c .write-fills .result) long (c .write-fills .ensures .count);
       rows = rows-are fs (c .args .rows .now) (c .write-fills .last .rows) (c .write-fills .result) long (c .write-fills .ensures .count) (c .write-fills .ensures .rows);
-      laws = subst (FillLaws (a .order .side) (a .order .size) (a .floor) (a .initiating) (standing (a .table))) (sym front) laws;
+      laws = (subst (FillLaws (a .order .side) (a .order .size) (a .floor) (a .initiating) (standing (a .table))) (sym front) laws, past .0, past .1, omega arith);
     }
