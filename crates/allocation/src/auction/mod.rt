@@ -7,9 +7,12 @@ ghost use mathlib.Core.Bool.{true};
 ghost use mathlib.Core.Path.{_≡_};
 ghost use Rattle.allocation.specs.AuctionInvariant.{terms-ok, response-ok, each, arrivals-apart};
 
+pub mod change;
+mod checks;
 pub mod fill;
 pub mod make;
-pub mod respond;
+pub mod store;
+pub mod withdraw;
 
 #[derive(Clone, Copy)]
 pub struct Auction {
