@@ -1,5 +1,10 @@
-// One task from beginning to end: from the quotes of a strategy's legs to the prices at which an order may trade.
+// One task from beginning to end: from the quotes of a strategy's legs to the prices at which an order may trade, and
+// on to who gets how many of its contracts.
+mod fills;
+mod levels;
+mod responses;
 mod steps;
+mod table;
 mod text;
 
 use market::legs::Legs;
@@ -8,7 +13,10 @@ use market::side::Side;
 use std::io;
 
 fn main(rt: LibcRuntime) -> io::Result<()> {
-    println!(rt, "Complex CUBE: at which prices may an order trade?")?;
+    println!(
+        rt,
+        "Complex CUBE: at which prices may an order trade, and who gets how many contracts?"
+    )?;
     let first = LegTerms {
         side: Side::Buy,
         ratio: 1,

@@ -1,4 +1,5 @@
 // The narration, step by step. What it prints of markets and ranges is what the library answers.
+use crate::fills::auctions;
 use crate::text::Price;
 use crate::text::PriceDisplay;
 use crate::text::ShownDisplay;
@@ -106,7 +107,7 @@ fn quote_book(rt: &LibcRuntime, market: &mut CubeMarket, quote: Quote) -> io::Re
     take(rt, market, Half::Left(quote))
 }
 
-fn name_of(side: Side) -> &'static str {
+pub fn name_of(side: Side) -> &'static str {
     match side {
         Side::Buy => "buy",
         Side::Sell => "sell",
@@ -131,7 +132,7 @@ fn show_turned(rt: &LibcRuntime, range: PermittedRange) -> io::Result<()> {
     }
 }
 
-fn show_range(rt: &LibcRuntime, range: PermittedRange) -> io::Result<()> {
+pub fn show_range(rt: &LibcRuntime, range: PermittedRange) -> io::Result<()> {
     let floor = Price {
         cents: range.floor_price(),
     };
@@ -163,17 +164,19 @@ fn why(refusal: RangeRefusal) -> &'static str {
     }
 }
 
+pub fn show_refusal(rt: &LibcRuntime, refusal: RangeRefusal) -> io::Result<()> {
+    let number = refusal.number();
+    let reason = why(refusal);
+    println!(rt, "    refused: {number}, {reason}")
+}
+
 fn ask(rt: &LibcRuntime, market: &CubeMarket, side: Side, limit: i64) -> io::Result<()> {
     let name = name_of(side);
     let price = Price { cents: limit };
     println!(rt, "  an order to {name}, limit {price}")?;
     match permitted_range(market, side, limit) {
         Ok(range) => show_range(rt, range),
-        Err(refusal) => {
-            let number = refusal.number();
-            let reason = why(refusal);
-            println!(rt, "    refused: {number}, {reason}")
-        }
+        Err(refusal) => show_refusal(rt, refusal),
     }
 }
 
@@ -263,5 +266,6 @@ pub fn narrate(rt: &LibcRuntime, legs: Legs) -> io::Result<()> {
     first_quotes(rt, &mut market)?;
     orders(rt, &market)?;
     moves(rt, &mut market)?;
-    faults(rt, &mut market)
+    faults(rt, &mut market)?;
+    auctions(rt, &market)
 }

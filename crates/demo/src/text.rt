@@ -1,4 +1,5 @@
 // Prices and refusals as the narration prints them.
+use allocation::response::Class;
 use market::quote::Quote;
 use std::fmt;
 
@@ -49,5 +50,12 @@ pub fn offer(quote: Quote) -> Shown<'static> {
     Shown {
         name: "offer",
         price: quote.offer,
+    }
+}
+
+pub fn name_of_class(class: Class) -> &'static str {
+    match class {
+        Class::Customer => "customer",
+        Class::Other => "other",
     }
 }
