@@ -1,5 +1,6 @@
 -- Worked figures: from quotes to what is shown, from there to a range, and from an order with its responses to its fills.
 use Prim.Native.Nat.{ℕ}
+use mathlib.Core.Bool.{true}
 use mathlib.Core.Path.{_≡_}
 use mathlib.Core.List.{List, [], _∷_, map}
 use lib.IntN.{ℤ, pos}
@@ -22,6 +23,7 @@ use Rattle.allocation.specs.declared.response.Class.{Class}
 use Rattle.allocation.specs.declared.response.Class.the-variants.{Customer, Other}
 use Rattle.allocation.specs.declared.response.Kind.the-variants.{Sealed}
 use Rattle.allocation.specs.declared.response.Response.{Response}
+use Rattle.allocation.specs.AuctionInvariant.{terms-ok}
 use Rattle.allocation.specs.FillList.{fill-list}
 use Rattle.allocation.specs.Rankings.{by-key, earlier}
 use Rattle.market.specs.Cube.{CubeTicks, cube-start, cube-meaning}
@@ -66,12 +68,14 @@ Doubled-ratios-improve-by-two =
 abbrev pub derived-ticks : CubeTicks
 derived-ticks = Right (leg-at 1 500 502) ∷ (Right (leg-at 2 97 99) ∷ (Left (quoted-at 400 406) ∷ []))
 
--- There, an order to buy with a limit of 405 gets the initiating price 404 and the range 402 to 404.
+-- There, an order to buy with a limit of 405 gets the initiating price 404 and the range 402 to 404, and its auction can
+-- have an auto-match limit of 402.
 abbrev pub Book-and-legs-permit-402-to-404 : Type 0
 Book-and-legs-permit-402-to-404 =
     (legs-meaning .shows (after legs-meaning (bought-and-sold 1 1) (leg-at 1 500 502 ∷ (leg-at 2 97 99 ∷ []))) ≡ quoted-at 401 405)
     × (permitted Buy (pos 405) (cube-meaning .shows (after cube-meaning (cube-start (bought-and-sold 1 1)) derived-ticks))
     ≡ Ok (record { side = Buy; floor = pos 402; contra = pos 404; initiating = pos 404 }))
+    × (terms-ok (record { side = Buy; size = 100; limit = pos 405; guarantee = record { kind = AutoMatchLimit; price = pos 402 } }) (pos 402) (pos 404) ≡ true)
 
 -- The order of the figures on sharing: it buys, with a limit of 310, on the market of the first figure, so that its range
 -- is 294 to 304.
