@@ -1,4 +1,6 @@
 // Sharing out: who gets how many contracts of an ended auction, at which price.
+#![tactic(auto)]
+
 mod arrange;
 pub mod auction;
 pub mod cause;

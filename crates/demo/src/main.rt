@@ -1,5 +1,7 @@
 // One task from beginning to end: from the quotes of a strategy's legs to the prices at which an order may trade, and
 // on to who gets how many of its contracts.
+#![tactic(auto)]
+
 mod fills;
 mod levels;
 mod responses;

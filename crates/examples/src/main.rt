@@ -1,4 +1,6 @@
 // Worked figures that are no theorems: each is computed by the library and held to what the rules give.
+#![tactic(auto)]
+
 mod fills;
 mod intervals;
 mod legs;

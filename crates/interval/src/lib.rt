@@ -1,4 +1,6 @@
 // Interval sources: how many milliseconds each draw answers.
+#![tactic(auto)]
+
 pub mod fixed;
 pub mod refusal;
 pub mod source;

@@ -1,14 +1,13 @@
 -- After any ticks the CUBE market's book holds its last accepted quote, and each leg its last accepted one.
-use Rattle.std.proofs.Common.{◌≡◌, ℕ, suc, ◌+◌, ◌-◌, ◌<◌, ◌≤◌, min, Bool, true, false, cond, ◌&&◌, eqb, leb, List, [], ◌∷◌, length, is_ok, Some, None, Option, sym, refl, ap, ◌∙◌, arith}
+use Rattle.std.proofs.Common.{◌≡◌, ℕ, suc, ◌-◌, ◌≤◌, min, Bool, true, false, cond, ◌&&◌, eqb, List, [], ◌∷◌, length, is_ok, Some, sym, refl, ap, ◌∙◌, arith}
 use Rattle.std.proofs.lemmas.Bool.Decides.{nat_tests}
-use Rattle.market.specs.declared.better_of.Half.{Half}
 use Rattle.market.specs.declared.better_of.Half.TheVariants.{Left, Right}
 use Rattle.market.specs.declared.legs.leg.Leg.{Leg}
 use Rattle.market.specs.declared.legs.leg.LegQuote.{LegQuote}
 use Rattle.market.specs.declared.legs.leg.LegTick.{LegTick}
 use Rattle.market.specs.declared.quote.Quote.{Quote}
 use Rattle.market.specs.BetterOf.{better_quote}
-use Rattle.market.specs.Cube.{CubePosition, CubeTicks, cube_start, cube_meaning, cube_quote}
+use Rattle.market.specs.Cube.{CubeTicks, cube_start, cube_meaning, cube_quote}
 use Rattle.market.specs.History.{after, last_or, book_quotes, leg_quotes, last_book, with_last_quote, legs_from, last_legs}
 use Rattle.market.specs.Improve.{improved_quote}
 use Rattle.market.specs.Legs.{tick_answer, legs_answer, legs_next, quote_leg, quoted, smallest_ratio, legs_quote}

@@ -3,8 +3,7 @@
 use Rattle.std.proofs.Common.{◌≡◌, ℕ, Bool, true, false, cond, ◌⊎◌, ℤ, neg_ℤ, ◌≤ℤ◌, ◌<ℤ◌, Some, None, Ok, Err, Option, Result, sym, refl, ap, ◌∙◌, subst, inl, inr, arith}
 use borrow.Author.Differences.{ints}
 use lib.Signed.{lt_z}
-use Rattle.std.proofs.lemmas.Bool.Decides.{nat_tests}
-use Rattle.std.specs.Int.{int_min, int_max}
+use Rattle.std.specs.Int.{int_min}
 use Rattle.std.specs.Option.{option_map}
 use Rattle.market.specs.declared.quote.Quote.{Quote}
 use Rattle.market.specs.declared.refusal.RangeRefusal.{RangeRefusal}
@@ -13,7 +12,7 @@ use Rattle.market.specs.declared.side.Side.{Side}
 use Rattle.market.specs.declared.side.Side.TheVariants.{Buy, Sell}
 use Rattle.market.specs.Prices.{in_limits}
 use Rattle.market.specs.Range.{RangePrices, turned_quote, range_from, range_faced, permitted}
-use Rattle.market.specs.RangeLaws.{refused_with, InRange, Gives, PlainPrices, mirrored, as_sell, RangeLaws}
+use Rattle.market.specs.RangeLaws.{refused_with, Gives, PlainPrices, mirrored, as_sell, RangeLaws}
 use Rattle.market.specs.Turned.{turned}
 use Rattle.market.specs.LegsBounded.{turned_within}
 

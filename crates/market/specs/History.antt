@@ -1,7 +1,7 @@
 -- What the CUBE market holds after ticks, said from the legs as they were given and the ticks alone: the book has its
 -- last accepted quote, and none before the first; each leg has its last accepted one, and before the first the one that
 -- it came with, if any.
-use Rattle.std.specs.Prelude.{ℕ, suc, cond, ◌&&◌, List, [], ◌∷◌, length, is_ok, Some, None, Option, ◌==◌}
+use Rattle.std.specs.Prelude.{ℕ, suc, cond, ◌&&◌, List, [], ◌∷◌, length, is_ok, Some, Option, ◌==◌}
 use Rattle.market.specs.declared.better_of.Half.{Half}
 use Rattle.market.specs.declared.better_of.Half.TheVariants.{Left, Right}
 use Rattle.market.specs.declared.legs.leg.Leg.{Leg}

@@ -1,6 +1,6 @@
 -- What holds of every leg: its ratio is 1 to 9, and the quote that it took, if any, has both prices 0 to 1,000,000
 -- and the bid below the offer.
-use Rattle.std.specs.Prelude.{ℕ, Bool, true, false, ◌&&◌, ℤ, pos, Some, None, Option, int_le, int_lt}
+use Rattle.std.specs.Prelude.{Bool, true, false, ◌&&◌, ℤ, pos, Some, None, Option, int_le, int_lt}
 use Rattle.market.specs.declared.legs.leg.Leg.{Leg}
 use Rattle.market.specs.declared.legs.leg.LegQuote.{LegQuote}
 use Rattle.market.specs.OneToNine.{one_to_nine}

@@ -1,5 +1,5 @@
 -- Legs: two to four, each bought or sold, made of two, the others added singly. Prices show once every leg is quoted.
-use Rattle.std.specs.Prelude.{ℕ, ◌-◌, min, Bool, true, false, cond, ◌&&◌, List, [], ◌∷◌, ◌++◌, length, ℤ, pos, ◌+ℤ◌, ◌*ℤ◌, is_ok, Some, None, Ok, Err, Option, Result, ◌==◌, int_lt, nat_le}
+use Rattle.std.specs.Prelude.{ℕ, ◌-◌, min, cond, ◌&&◌, List, [], ◌∷◌, ◌++◌, length, ℤ, pos, ◌+ℤ◌, ◌*ℤ◌, is_ok, Some, None, Ok, Err, Option, Result, ◌==◌, int_lt, nat_le}
 use Rattle.std.specs.Option.{option_map}
 use Rattle.market.specs.declared.fault.Fault.{Fault}
 use Rattle.market.specs.declared.legs.Legs.{Legs}

@@ -1,9 +1,8 @@
 -- How far prices go: a leg adds at most 9 × 1,000,000 cents either way, four legs at most 36,000,000, and a turned price
 -- goes as far as the price.
-use Rattle.std.specs.Prelude.{◌≡◌, ℕ, ◌+◌, ◌*◌, ◌^◌, ◌<◌, ◌≤◌, Bool, true, false, ◌&&◌, List, [], ◌∷◌, ℤ, pos, negsuc, ◌*ℤ◌, neg_ℤ, Some, None, Option, FitsSigned, refl}
-use Rattle.std.proofs.Common.{sym, ap, ◌∙◌, mul-le-mul, arith, to_z, of_z}
+use Rattle.std.specs.Prelude.{◌≡◌, ℕ, ◌+◌, ◌*◌, ◌≤◌, true, List, [], ℤ, pos, negsuc, ◌*ℤ◌, Some, None, Option, FitsSigned, refl}
+use Rattle.std.proofs.Common.{ap, ◌∙◌, mul-le-mul, arith, to_z, of_z}
 use Rattle.std.proofs.Math.IntN.{pos-*ℤ-pos}
-use Rattle.std.specs.Int.Signed.{le_z}
 use Rattle.std.specs.Int.{w64}
 use Rattle.std.proofs.lemmas.Int.{to_z-of_z, ints}
 use Rattle.std.proofs.lemmas.Bool.Decides.{nat_tests}

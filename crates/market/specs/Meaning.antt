@@ -1,5 +1,5 @@
 -- What a market means, and the terms that every market keeps.
-use Rattle.std.specs.Prelude.{◌≡◌, ℕ, true, false, is_ok, None, Result}
+use Rattle.std.specs.Prelude.{◌≡◌, true, false, is_ok, None, Result}
 use Rattle.market.specs.declared.quote.Quote.{Quote}
 use Rattle.market.specs.Prices.{showable}
 

@@ -1,5 +1,5 @@
 -- The permitted range of an order, on turned prices: from the floor to the initiating price.
-use Rattle.std.specs.Prelude.{ℕ, cond, ℤ, neg_ℤ, Some, None, Ok, Err, Option, Result, int_lt}
+use Rattle.std.specs.Prelude.{cond, ℤ, neg_ℤ, Some, None, Ok, Err, Option, Result, int_lt}
 use Rattle.std.specs.Int.{int_max, int_min}
 use Rattle.std.specs.Option.{option_map}
 use Rattle.market.specs.declared.quote.Quote.{Quote}

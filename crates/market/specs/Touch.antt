@@ -1,5 +1,5 @@
 -- Touch: a tick gives a bid and an offer, each a price or none; before the first there is none.
-use Rattle.std.specs.Prelude.{ℕ, cond, is_ok, Ok, Result}
+use Rattle.std.specs.Prelude.{cond, is_ok, Ok, Result}
 use Rattle.market.specs.declared.fault.Fault.{Fault}
 use Rattle.market.specs.declared.quote.Quote.{Quote}
 use Rattle.market.specs.declared.touch.Touch.{Touch}

@@ -1,4 +1,6 @@
 // Markets: what a complex strategy's market shows, how it takes a quote, and which prices it permits an order.
+#![tactic(auto)]
+
 pub mod better_of;
 pub mod cube;
 pub mod fault;

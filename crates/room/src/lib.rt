@@ -1,4 +1,6 @@
 // The room that holds auctions: what members hand in, what they are answered, and for what a call is refused.
+#![tactic(auto)]
+
 pub mod answers;
 mod auction;
 mod checks;

@@ -1,4 +1,6 @@
 // Runs of a room: any list of calls, one after another.
+#![tactic(auto)]
+
 pub mod answers;
 pub mod calls;
 pub mod handed;

@@ -1,4 +1,6 @@
 // Worked runs of a room, computed from the definitions of what a room does. These functions compute nothing.
+#![tactic(auto)]
+
 ghost use Rattle.worked_runs.specs.Causes.{EveryCauseEndsAnAuction};
 ghost use Rattle.worked_runs.specs.Figures.{FiguresOfRooms};
 ghost use Rattle.worked_runs.specs.Refusals.{InputRefusals, OpeningRefusals, ResponseAndTickRefusals};
