@@ -71,7 +71,7 @@ apart_rewritten (suc i) size price arrival (x ∷ xs) h k =
     (each_changed (λ (y : Response). not (eqb x.arrival y.arrival)) i size price arrival xs free (λ (y : Response). λ (e : not (eqb x.arrival y.arrival) ≡ true). here))
     (apart_rewritten i size price arrival xs apart rest)
 
-each_less : {X : Type 0} (p : X → Bool) (i : ℕ) (xs : List X) → each p xs ≡ true → each p (take i xs ++ drop (suc i) xs) ≡ true
+pub each_less : {X : Type 0} (p : X → Bool) (i : ℕ) (xs : List X) → each p xs ≡ true → each p (take i xs ++ drop (suc i) xs) ≡ true
 each_less p zero [] h = refl
 each_less p (suc i) [] h = refl
 each_less p zero (x ∷ xs) h = both_right (p x) (each p xs) h

@@ -1,5 +1,5 @@
 -- What the code writes is the fill list of the auction, and the fill list keeps its laws.
-use Rattle.std.proofs.Common.{◌≡◌, ℕ, ◌+◌, ◌<◌, ◌≤◌, Bool, true, false, not, ◌&&◌, eqb, ltb, leb, List, [], ◌∷◌, ◌++◌, length, take, drop, ℤ, ◌≤ℤ◌, Some, Ok, Err, sym, refl, ap, ◌∙◌, subst, arith, length-append}
+use Rattle.std.proofs.Common.{◌≡◌, ℕ, ◌+◌, ◌<◌, ◌≤◌, Bool, true, false, not, ◌&&◌, eqb, ltb, leb, List, [], ◌∷◌, ◌++◌, length, take, drop, ℤ, ◌≤ℤ◌, Some, Ok, Err, sym, refl, ap, ◌∙◌, arith, length-append}
 use borrow.Author.Differences.{ints}
 use lib.Signed.{le_z}
 use Rattle.std.proofs.lemmas.List.{take_at, drop_at}
@@ -20,7 +20,7 @@ use Rattle.allocation.specs.Arranged.{arranged}
 use Rattle.allocation.specs.Auction.{fill_answer, rows_after}
 use Rattle.allocation.specs.AuctionInvariant.{from_to, stop_ok, range_ok, guarantee_ok, terms_ok, response_ok, each, arrival_free, arrivals_apart}
 use Rattle.allocation.specs.FillLaws.{FillLaws}
-use Rattle.allocation.specs.FillList.{fills, fill_list, contra_terms, order_levels}
+use Rattle.allocation.specs.FillList.{fills, fill_list, contra_terms}
 use Rattle.allocation.specs.Levels.{levels, contra_level, flat}
 use Rattle.allocation.specs.LevelSteps.{Sized, Sound}
 use Rattle.allocation.specs.Walk.{walked}

@@ -1,5 +1,5 @@
 -- Parts of sound responses are sound, and the runs that the code measures are the level at their front.
-use Rattle.std.proofs.Common.{◌≡◌, ℕ, ◌≤◌, List, length, take, drop, ℤ, sym, ap, ◌∙◌, subst, arith}
+use Rattle.std.proofs.Common.{◌≡◌, ℕ, List, take, drop, ℤ, sym, ap, ◌∙◌, subst, arith}
 use Rattle.std.proofs.ByRecursion.{All-take, All-drop}
 use Rattle.std.proofs.lemmas.List.{length-take, length-drop}
 use Rattle.allocation.specs.declared.order.ContraTerms.{ContraTerms}

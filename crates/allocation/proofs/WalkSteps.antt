@@ -5,7 +5,6 @@ use lib.ListN.{length-map}
 use lib.Signed.{lt_z}
 use Rattle.std.proofs.lemmas.List.{length-take, length-take-le, length-drop, at_drop_more, at_drop_all, drop-drop, append-nil, take-append-drop}
 use Rattle.std.proofs.lemmas.Bool.{cond_both, ltb-true, ltb-false}
-use Rattle.std.specs.Int.{int_min}
 use Rattle.std.specs.List.{AllByRecursion as All}
 use Rattle.market.specs.declared.side.Side.{Side}
 use Rattle.market.specs.Prices.{showable}

@@ -1,5 +1,5 @@
 -- What holds of every auction, so that its contracts can be shared out: prices are turned.
-use Rattle.std.specs.Prelude.{ℕ, Bool, true, false, not, ◌&&◌, List, [], ◌∷◌, ℤ, Some, ◌==◌, int_le, nat_le}
+use Rattle.std.specs.Prelude.{ℕ, Bool, true, not, ◌&&◌, List, [], ◌∷◌, ℤ, Some, ◌==◌, int_le, nat_le}
 use Rattle.market.specs.Prices.{showable}
 use Rattle.allocation.specs.Table.{is_of}
 use Rattle.allocation.specs.declared.order.Guarantee.{Guarantee}

@@ -1,7 +1,6 @@
 -- How the contracts that are left are split at one level among customers, contra and others.
 use Rattle.std.specs.Prelude.{ℕ, ◌+◌, ◌-◌, ◌*◌, ◌/◌, min, max, cond, ℤ, ◌==◌, int_lt, nat_le}
 use Rattle.allocation.specs.declared.order.ContraTerms.{ContraTerms}
-use Rattle.allocation.specs.declared.order.Guarantee.{Guarantee}
 use Rattle.allocation.specs.declared.order.GuaranteeKind.{GuaranteeKind}
 use Rattle.allocation.specs.declared.order.GuaranteeKind.TheVariants.{SingleStop, AutoMatchLimit}
 pub use Rattle.allocation.specs.declared.split.Rest.{Rest}

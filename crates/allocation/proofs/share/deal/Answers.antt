@@ -1,4 +1,4 @@
-use Rattle.std.proofs.Common.{◌≡◌, ℕ, ◌+◌, ◌-◌, ◌*◌, ◌/◌, ◌<◌, ◌≤◌, min, List, ◌∷◌, length, get_or, drop, sym, refl, ap, ◌∙◌, arith}
+use Rattle.std.proofs.Common.{◌≡◌, ℕ, ◌+◌, ◌-◌, ◌*◌, ◌/◌, min, List, ◌∷◌, get_or, drop, sym, refl, ◌∙◌, arith}
 use Rattle.std.proofs.ByRecursion.{All-get_or}
 use Rattle.allocation.specs.declared.fill.FillRow.{FillRow}
 use Rattle.allocation.specs.declared.response.Response.{Response}
@@ -8,23 +8,23 @@ use Rattle.allocation.specs.Shares.{sizes, dealt}
 use Rattle.allocation.proofs.Writes.{no_response, write_step, write_end}
 use Rattle.allocation.proofs.share.deal.Goals as goal
 
-pub whole-part-requires : goal.whole-part-requires
-whole-part-requires c =
+pub whole_part-requires : goal.whole_part-requires
+whole_part-requires c =
     let sized = All-get_or Sized c.args.responses.now c.loop-i.i no_response c.loop-i-test.true c.requires.0.1 in
     (c.requires.1.1.0, (c.requires.1.1.1, (sized.0, sized.1)))
 
-pub overflow-add-filled : goal.overflow-add-filled
-overflow-add-filled c =
+pub overflow_add-filled : goal.overflow_add-filled
+overflow_add-filled c =
     let sized = All-get_or Sized c.args.responses.now c.loop-i.i no_response c.loop-i-test.true c.requires.0.1 in
     omega arith
 
-pub overflow-cast-filled : goal.overflow-cast-filled
-overflow-cast-filled c =
+pub overflow_cast-filled : goal.overflow_cast-filled
+overflow_cast-filled c =
     let sized = All-get_or Sized c.args.responses.now c.loop-i.i no_response c.loop-i-test.true c.requires.0.1 in
     omega arith
 
-pub row-of-requires : goal.row-of-requires
-row-of-requires c =
+pub row_of-requires : goal.row_of-requires
+row_of-requires c =
     let sized = All-get_or Sized c.args.responses.now c.loop-i.i no_response c.loop-i-test.true c.requires.0.1 in
     record { size = omega arith; price = sized.2 }
 
@@ -40,11 +40,11 @@ loop-i-preserved c =
     let rows = c.loop-i.rows in
     let F : ℕ → List Response → List FillRow = λ o rs. class_rows side rs (dealt k t o (sizes rs)) in
     let x : Response = get_or xs i no_response in
-    let y : FillRow = fill_row side x (c.whole-part.result + extra) in
+    let y : FillRow = fill_row side x (c.whole_part.result + extra) in
     let left : odd - extra ≡ odd - 1 = omega arith in
-    let share : c.whole-part.result + extra ≡ k * x.size / t + min odd 1 = omega arith in
+    let share : c.whole_part.result + extra ≡ k * x.size / t + min odd 1 = omega arith in
     let turn : F odd (x ∷ drop (i + 1) xs) ≡ y ∷ F (odd - extra) (drop (i + 1) xs) = cc in
-    rw c.row-of.ensures (write_step (F odd) (F (odd - extra)) xs rows i no_response y c.loop-i-test.true (omega arith) turn ∙ c.loop-i.invariant)
+    rw c.row_of.ensures (write_step (F odd) (F (odd - extra)) xs rows i no_response y c.loop-i-test.true (omega arith) turn ∙ c.loop-i.invariant)
 
 pub returns : goal.returns
 returns c =

@@ -1,4 +1,4 @@
-use Rattle.std.proofs.Common.{◌≡◌, ◌++◌, length, take, drop}
+use Rattle.std.proofs.Common.{◌≡◌, ◌++◌, take, drop}
 use Rattle.allocation.specs.FillList.{class_rows}
 use Rattle.allocation.specs.Shares.{sizes, dealt}
 use Rattle.allocation.proofs.share.deal.Given as goal

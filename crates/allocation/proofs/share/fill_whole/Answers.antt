@@ -1,4 +1,4 @@
-use Rattle.std.proofs.Common.{◌≡◌, ◌+◌, ◌<◌, ◌≤◌, List, ◌∷◌, length, get_or, drop, sym, refl, ◌∙◌, arith}
+use Rattle.std.proofs.Common.{List, get_or, sym, refl, ◌∙◌, arith}
 use Rattle.std.proofs.ByRecursion.{All-get_or}
 use Rattle.allocation.specs.declared.fill.FillRow.{FillRow}
 use Rattle.allocation.specs.declared.response.Response.{Response}
@@ -8,8 +8,8 @@ use Rattle.allocation.specs.Shares.{sizes}
 use Rattle.allocation.proofs.Writes.{no_response, write_step, write_end}
 use Rattle.allocation.proofs.share.fill_whole.Goals as goal
 
-pub row-of-requires : goal.row-of-requires
-row-of-requires c =
+pub row_of-requires : goal.row_of-requires
+row_of-requires c =
     let sized = All-get_or Sized c.args.responses.now c.loop-i.i no_response c.loop-i-test.true c.requires.0.1 in
     record { size = omega arith; price = sized.2 }
 
@@ -22,7 +22,7 @@ loop-i-preserved c =
     let F : List Response → List FillRow = λ rs. class_rows side rs (sizes rs) in
     let x : Response = get_or xs i no_response in
     let y : FillRow = fill_row side x x.size in
-    rw c.row-of.ensures (write_step F F xs rows i no_response y c.loop-i-test.true (omega arith) refl ∙ c.loop-i.invariant)
+    rw c.row_of.ensures (write_step F F xs rows i no_response y c.loop-i-test.true (omega arith) refl ∙ c.loop-i.invariant)
 
 pub returns : goal.returns
 returns c =

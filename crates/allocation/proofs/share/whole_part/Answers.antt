@@ -1,10 +1,10 @@
-use Rattle.std.proofs.Common.{◌≡◌, ◌*◌, ◌/◌, ◌≤◌, ap, arith}
+use Rattle.std.proofs.Common.{◌*◌, ◌/◌, ap, arith}
 use Rattle.std.proofs.lemmas.Nat.{mul-le}
 use Rattle.allocation.proofs.ShareFacts.{part_below}
 use Rattle.allocation.proofs.share.whole_part.Goals as goal
 
-pub overflow-mul-result : goal.overflow-mul-result
-overflow-mul-result c =
+pub overflow_mul-result : goal.overflow_mul-result
+overflow_mul-result c =
     let fits = mul-le c.args.k c.from.result 6400000 100000 (omega arith) (omega arith) in
     omega arith
 

@@ -6,8 +6,8 @@ use Rattle.allocation.specs.Shares.{sizes, parts_total}
 use Rattle.allocation.proofs.Writes.{no_response}
 use Rattle.allocation.proofs.share.whole_parts.Goals as goal
 
-pub whole-part-sum-requires : goal.whole-part-sum-requires
-whole-part-sum-requires c =
+pub whole_part-sum-requires : goal.whole_part-sum-requires
+whole_part-sum-requires c =
     let sized = All-get_or Sized c.args.responses.now c.loop-response.response-index no_response c.loop-response-test.true c.requires.0.1 in
     (c.requires.1.0, (c.requires.1.1, (sized.0, sized.1)))
 

@@ -1,4 +1,4 @@
-use Rattle.std.proofs.Common.{◌≡◌, ℕ, ◌+◌, ◌-◌, ◌*◌, ◌≤◌, true, cond, ◌++◌, length, take, drop}
+use Rattle.std.proofs.Common.{◌+◌, true, length}
 use Rattle.allocation.specs.Levels.{contra_level}
 use Rattle.allocation.specs.Walk.{walked}
 use Rattle.allocation.proofs.WalkSteps.{Underway, to_go}

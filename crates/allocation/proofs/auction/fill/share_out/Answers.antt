@@ -1,11 +1,11 @@
-use Rattle.std.proofs.Common.{◌≡◌, ◌++◌, length, drop, sym, ap, ◌∙◌}
+use Rattle.std.proofs.Common.{◌++◌, length, drop, ap, ◌∙◌}
 use Rattle.allocation.specs.Rankings.{by_key}
 use Rattle.allocation.proofs.FillProved.{sound_arranged, walked_levels}
 use Rattle.allocation.proofs.Runs.{sound_at}
 use Rattle.allocation.proofs.auction.fill.share_out.Goals as goal
 
-pub fill-levels-requires : goal.fill-levels-requires
-fill-levels-requires g c =
+pub fill_levels-requires : goal.fill_levels-requires
+fill_levels-requires g c =
     record {
       responses = sound_at c.arrange.ensures (sound_arranged (by_key (g.R.Ranking.ahead c.args.ranking.now)) c.args.responses.now c.requires.responses);
       own = c.requires.own;
@@ -17,6 +17,6 @@ pub returns : goal.returns
 returns g c =
     let is = walked_levels (by_key (g.R.Ranking.ahead c.args.ranking.now)) c.args.side c.args.terms.now c.args.responses.now c.arrange.new.responses c.args.size c.arrange.ensures in
     record {
-      count = c.fill-levels.ensures.count ∙ ap length is;
-      rows = c.fill-levels.ensures.rows ∙ ap (λ rs. rs ++ drop c.fill-levels.result c.args.rows.now) is;
+      count = c.fill_levels.ensures.count ∙ ap length is;
+      rows = c.fill_levels.ensures.rows ∙ ap (λ rs. rs ++ drop c.fill_levels.result c.args.rows.now) is;
     }

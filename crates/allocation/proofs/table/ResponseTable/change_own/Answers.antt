@@ -4,10 +4,10 @@ use Rattle.allocation.specs.Table.{standing, rewritten}
 use Rattle.allocation.proofs.OwnResponses.{place_none, none_changed, found_changed}
 use Rattle.allocation.proofs.table.ResponseTable.change_own.Goals as goal
 
-pub returns-in-default : goal.returns-in-default
-returns-in-default c =
+pub returns-in_default : goal.returns-in_default
+returns-in_default c =
     let xs = standing c.args.self.now in
-    let none = ap is_some (place_none c.args.member c.args.own xs (sym c.in-default.ensures.value)) in
+    let none = ap is_some (place_none c.args.member c.args.own xs (sym c.in_default.ensures.value)) in
     record { standing = sym (none_changed c.args.member c.args.own c.args.size c.args.price c.args.arrival xs none); tabled = c.requires }
 
 pub returns : goal.returns

@@ -3,10 +3,10 @@ use Rattle.allocation.specs.Table.{standing}
 use Rattle.allocation.proofs.OwnResponses.{place_stands, place_none, none_removed, found_without}
 use Rattle.allocation.proofs.table.ResponseTable.remove_own.Goals as goal
 
-pub returns-in-default : goal.returns-in-default
-returns-in-default c =
+pub returns-in_default : goal.returns-in_default
+returns-in_default c =
     let xs = standing c.args.self.now in
-    let none = ap is_some (place_none c.args.member c.args.own xs (sym c.in-default.ensures.value)) in
+    let none = ap is_some (place_none c.args.member c.args.own xs (sym c.in_default.ensures.value)) in
     record { answer = sym none; standing = sym (none_removed c.args.member c.args.own xs none); tabled = c.requires }
 
 pub returns : goal.returns
