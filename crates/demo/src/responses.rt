@@ -52,7 +52,7 @@ fn in_order(heap: Global, side: Side, told: &[Told]) -> Result<Vec<Standing>, Al
             size,
         })?;
     }
-    list.sort();
+    list.sort()?;
     Ok(list)
 }
 

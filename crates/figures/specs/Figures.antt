@@ -1,12 +1,9 @@
 -- Worked figures: from quotes to what is shown, from there to a range, and from an order with its responses to its fills.
-use Rattle.std.specs.Prelude.{◌≡◌, ℕ, true, List, [], ◌∷◌, map, ℤ, pos, Some, None, Ok, Option}
-use Rattle.market.specs.declared.better_of.Half.{Half}
+use Rattle.std.specs.Prelude.{◌≡◌, ℕ, true, List, [], ◌∷◌, map, ℤ, pos, Some, None, Ok}
 use Rattle.market.specs.declared.better_of.Half.TheVariants.{Left, Right}
 use Rattle.market.specs.declared.legs.leg.Leg.{Leg}
-use Rattle.market.specs.declared.legs.leg.LegTerms.{LegTerms}
 use Rattle.market.specs.declared.legs.leg.LegTick.{LegTick}
 use Rattle.market.specs.declared.quote.Quote.{Quote}
-use Rattle.market.specs.declared.side.Side.{Side}
 use Rattle.market.specs.declared.side.Side.TheVariants.{Buy, Sell}
 use Rattle.allocation.specs.declared.fill.FillRow.{FillRow}
 use Rattle.allocation.specs.declared.order.GuaranteeKind.{GuaranteeKind}
