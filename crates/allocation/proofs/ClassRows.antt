@@ -1,7 +1,7 @@
 -- The rows of one class at one price: they tell of its responses, share k contracts by size, and leave some only where
 -- k is below the total size.
 use Rattle.std.proofs.Common.{◌≡◌, ℕ, ◌+◌, ◌-◌, ◌*◌, ◌/◌, ◌<◌, ◌≤◌, min, true, ◌⊎◌, List, [], ◌∷◌, map, ℤ, sym, refl, ap, ◌∙◌, subst, inl, inr, arith}
-use Rattle.std.specs.List.{AllZip, AllByRecursion as All}
+use Rattle.std.specs.List.{AllZip, AllByRecursion}
 use Rattle.std.proofs.ByRecursion.{All-map}
 use Rattle.std.proofs.lemmas.Bool.{lt-ltb, cases_lt}
 use Rattle.market.specs.declared.side.Side.{Side}
@@ -16,7 +16,7 @@ use Rattle.allocation.proofs.LevelShape.{At}
 use Rattle.allocation.proofs.ShareFacts.{Fair, fair_shared}
 
 -- what holds of each response with its share holds of each row
-rows_all : (side : Side) (P : FillRow → Type 0) (Q : Response → Type 0) (R : ℕ → ℕ → Type 0) → ((x : Response) (f : ℕ) → Q x → R x.size f → P (fill_row side x f)) → (xs : List Response) (fs : List ℕ) → All Q xs → AllZip R (sizes xs) fs → All P (class_rows side xs fs)
+rows_all : (side : Side) (P : FillRow → Type 0) (Q : Response → Type 0) (R : ℕ → ℕ → Type 0) → ((x : Response) (f : ℕ) → Q x → R x.size f → P (fill_row side x f)) → (xs : List Response) (fs : List ℕ) → AllByRecursion Q xs → AllZip R (sizes xs) fs → AllByRecursion P (class_rows side xs fs)
 rows_all side P Q R g [] fs a e = tt
 rows_all side P Q R g (x ∷ xs) [] a e = tt
 rows_all side P Q R g (x ∷ xs) (f ∷ fs) (q, a) (r, e) = (g x f q r, rows_all side P Q R g xs fs a e)
@@ -41,7 +41,7 @@ rows_size side (x ∷ xs) [] e = absurd e
 rows_size side (x ∷ xs) (f ∷ fs) (le, e) = omega (arith, rows_size side xs fs e)
 
 -- a row of none is of no contracts
-pub rows_none : (rows : List FillRow) → filled_in rows ≡ 0 → All (λ (f : FillRow). f.filled ≡ 0) rows
+pub rows_none : (rows : List FillRow) → filled_in rows ≡ 0 → AllByRecursion (λ (f : FillRow). f.filled ≡ 0) rows
 rows_none [] e = tt
 rows_none (f ∷ fs) e = (omega arith, rows_none fs (omega arith))
 
@@ -57,17 +57,17 @@ each_both R S (s ∷ ss) (f ∷ fs) (p, a) (q, b) = ((p, q), each_both R S ss fs
 
 -- rows of responses of class c at a price, which share k contracts and ask for n
 pub record ClassRows (side : Side) (price : ℤ) (c : Class) (k n : ℕ) (xs : List Response) (rows : List FillRow) : Type 0 where
-  pub at_price : All (λ (f : FillRow). f.price ≡ turned side price) rows
-  pub of_class : All (λ (f : FillRow). f.class ≡ c) rows
-  pub of_responses : All (λ (f : FillRow). of_response f ≡ true) rows
+  pub at_price : AllByRecursion (λ (f : FillRow). f.price ≡ turned side price) rows
+  pub of_class : AllByRecursion (λ (f : FillRow). f.class ≡ c) rows
+  pub of_responses : AllByRecursion (λ (f : FillRow). of_response f ≡ true) rows
   pub told : map row_told rows ≡ map (response_told side) xs
   pub filled_is : filled_in rows ≡ k
   pub size_is : size_in rows ≡ n
-  pub near : All (ProRata k n) rows
-  pub lack : All (λ (f : FillRow). 0 < f.left → k < n) rows
-  pub nothing : k ≡ 0 → All (λ (f : FillRow). f.filled ≡ 0) rows
+  pub near : AllByRecursion (ProRata k n) rows
+  pub lack : AllByRecursion (λ (f : FillRow). 0 < f.left → k < n) rows
+  pub nothing : k ≡ 0 → AllByRecursion (λ (f : FillRow). f.filled ≡ 0) rows
 
-pub class_laws : (side : Side) (price : ℤ) (c : Class) (k : ℕ) (xs : List Response) → All (At price c) xs → All (λ (x : Response). 0 < x.member) xs → All (λ (x : Response). 0 < x.size) xs → k ≤ total (sizes xs) → ClassRows side price c k (total (sizes xs)) xs (shared_rows side k xs)
+pub class_laws : (side : Side) (price : ℤ) (c : Class) (k : ℕ) (xs : List Response) → AllByRecursion (At price c) xs → AllByRecursion (λ (x : Response). 0 < x.member) xs → AllByRecursion (λ (x : Response). 0 < x.size) xs → k ≤ total (sizes xs) → ClassRows side price c k (total (sizes xs)) xs (shared_rows side k xs)
 class_laws side price c k xs here members some le = record {
   at_price = rows_all side (λ f. f.price ≡ turned side price) (At price c) over (λ x f q _. ap (turned side) q.0) xs fs here each;
   of_class = rows_all side (λ f. f.class ≡ c) (At price c) over (λ x f q _. q.1) xs fs here each;

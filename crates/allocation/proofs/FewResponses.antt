@@ -4,7 +4,7 @@
 use Rattle.std.proofs.Common.{◌≡◌, ℕ, zero, suc, ◌+◌, ◌-◌, ◌*◌, ◌<◌, ◌≤◌, Bool, true, false, cond, not, ◌&&◌, eqb, List, [], ◌∷◌, map, length, ℤ, refl, arith}
 use Rattle.std.proofs.lemmas.List.{length-map}
 use Rattle.std.proofs.lemmas.Bool.Decides.{nat_tests}
-use Rattle.std.specs.List.{AllByRecursion as All}
+use Rattle.std.specs.List.{AllByRecursion}
 use Rattle.allocation.specs.AuctionInvariant.{from_to, stored_ok, response_ok, each, own_free, owns_apart}
 use Rattle.allocation.specs.Table.{is_of}
 use Rattle.allocation.proofs.AuctionKept.{both_left, both_right}
@@ -13,7 +13,7 @@ use Rattle.allocation.specs.declared.response.Response.{Response}
 -- no two numbers are the same
 abbrev Differ : List ℕ → Type 0
 Differ [] = Unit {0}
-Differ (n ∷ ns) = All (λ m. m ≡ n → ⊥) ns × Differ ns
+Differ (n ∷ ns) = AllByRecursion (λ m. m ≡ n → ⊥) ns × Differ ns
 
 -- without the first n
 abbrev without : ℕ → List ℕ → List ℕ
@@ -28,15 +28,15 @@ length_without : (n : ℕ) (ms : List ℕ) → length ms ≤ length (without n m
 length_without n [] = omega arith
 length_without n (m ∷ ms) = length_split (eqb m n) m ms (without n ms) (length_without n ms)
 
-all_split : (P : ℕ → Type 0) (b : Bool) (m : ℕ) (ms rest : List ℕ) → P m → All P ms → All P rest → All P (cond b ms (m ∷ rest))
+all_split : (P : ℕ → Type 0) (b : Bool) (m : ℕ) (ms rest : List ℕ) → P m → AllByRecursion P ms → AllByRecursion P rest → AllByRecursion P (cond b ms (m ∷ rest))
 all_split P true m ms rest here all h = all
 all_split P false m ms rest here all h = (here, h)
 
-all_without : (P : ℕ → Type 0) (n : ℕ) (ms : List ℕ) → All P ms → All P (without n ms)
+all_without : (P : ℕ → Type 0) (n : ℕ) (ms : List ℕ) → AllByRecursion P ms → AllByRecursion P (without n ms)
 all_without P n [] h = tt
 all_without P n (m ∷ ms) h = all_split P (eqb m n) m ms (without n ms) h.0 h.1 (all_without P n ms h.1)
 
-differ_split : (b : Bool) (m : ℕ) (ms rest : List ℕ) → Differ ms → All (λ k. k ≡ m → ⊥) rest → Differ rest → Differ (cond b ms (m ∷ rest))
+differ_split : (b : Bool) (m : ℕ) (ms rest : List ℕ) → Differ ms → AllByRecursion (λ k. k ≡ m → ⊥) rest → Differ rest → Differ (cond b ms (m ∷ rest))
 differ_split true m ms rest all here h = all
 differ_split false m ms rest all here h = (here, h)
 
@@ -46,23 +46,23 @@ differ_without n (m ∷ ms) h =
     differ_split (eqb m n) m ms (without n ms) h.1 (all_without (λ k. k ≡ m → ⊥) n ms h.0) (differ_without n ms h.1)
 
 -- below n + 1 and not n is below n
-below_less : (n : ℕ) (ms : List ℕ) → All (λ m. m < suc n) ms → All (λ m. m ≡ n → ⊥) ms → All (λ m. m < n) ms
+below_less : (n : ℕ) (ms : List ℕ) → AllByRecursion (λ m. m < suc n) ms → AllByRecursion (λ m. m ≡ n → ⊥) ms → AllByRecursion (λ m. m < n) ms
 below_less n [] h k = tt
 below_less n (m ∷ ms) h k = let here = h.0 in let other = k.0 in (grind arith, below_less n ms h.1 k.1)
 
-below_split : (b : Bool) (n m : ℕ) (ms rest : List ℕ) → eqb m n ≡ b → m < suc n → All (λ k. k < suc n) ms → All (λ k. k ≡ m → ⊥) ms → All (λ k. k < n) rest → All (λ k. k < n) (cond b ms (m ∷ rest))
+below_split : (b : Bool) (n m : ℕ) (ms rest : List ℕ) → eqb m n ≡ b → m < suc n → AllByRecursion (λ k. k < suc n) ms → AllByRecursion (λ k. k ≡ m → ⊥) ms → AllByRecursion (λ k. k < n) rest → AllByRecursion (λ k. k < n) (cond b ms (m ∷ rest))
 below_split true n m ms rest e here all apart h =
     let same : m ≡ n = grind (arith, nat_tests) in
     below_less n ms all (rw (← same) apart)
 below_split false n m ms rest e here all apart h = (grind (arith, nat_tests), h)
 
-below_without : (n : ℕ) (ms : List ℕ) → All (λ m. m < suc n) ms → Differ ms → All (λ m. m < n) (without n ms)
+below_without : (n : ℕ) (ms : List ℕ) → AllByRecursion (λ m. m < suc n) ms → Differ ms → AllByRecursion (λ m. m < n) (without n ms)
 below_without n [] h d = tt
 below_without n (m ∷ ms) h d =
     below_split (eqb m n) n m ms (without n ms) refl h.0 h.1 d.0 (below_without n ms h.1 d.1)
 
 -- different numbers below n are at most n
-few : (n : ℕ) (ms : List ℕ) → All (λ m. m < n) ms → Differ ms → length ms ≤ n
+few : (n : ℕ) (ms : List ℕ) → AllByRecursion (λ m. m < n) ms → Differ ms → length ms ≤ n
 few zero [] h d = omega arith
 few zero (m ∷ ms) h d = absurd (let here = h.0 in omega arith)
 few (suc n) ms h d = omega (arith, length_without n ms, few n (without n ms) (below_without n ms h d) (differ_without n ms d))
@@ -92,13 +92,13 @@ module _ (most : ℕ) (floor initiating : ℤ) where
       let yo = own_in y k in
       grind (arith, nat_tests)
 
-  numbers_below : (xs : List Response) → each (response_ok most floor initiating) xs ≡ true → All (λ n. n < 64) (map number xs)
+  numbers_below : (xs : List Response) → each (response_ok most floor initiating) xs ≡ true → AllByRecursion (λ n. n < 64) (map number xs)
   numbers_below [] h = tt
   numbers_below (x ∷ xs) h =
       let ok = response_ok most floor initiating in
       (number_below x (both_left (ok x) (each ok xs) h), numbers_below xs (both_right (ok x) (each ok xs) h))
 
-  other_numbers : (x : Response) (xs : List Response) → response_ok most floor initiating x ≡ true → each (response_ok most floor initiating) xs ≡ true → own_free x.member x.own xs ≡ true → All (λ n. n ≡ number x → ⊥) (map number xs)
+  other_numbers : (x : Response) (xs : List Response) → response_ok most floor initiating x ≡ true → each (response_ok most floor initiating) xs ≡ true → own_free x.member x.own xs ≡ true → AllByRecursion (λ n. n ≡ number x → ⊥) (map number xs)
   other_numbers x [] h k free = tt
   other_numbers x (y ∷ ys) h k free =
       let ok = response_ok most floor initiating in

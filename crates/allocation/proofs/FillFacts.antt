@@ -2,7 +2,7 @@
 -- and nothing is left for later levels where a response lacks something or the contra's own price is passed.
 use Rattle.std.proofs.Common.{◌≡◌, ℕ, ◌+◌, ◌-◌, ◌<◌, true, false, ◌⊎◌, List, [], ◌∷◌, ◌++◌, map, ℤ, ◌≤ℤ◌, ◌<ℤ◌, sym, refl, ap, ◌∙◌, subst, inl, inr, arith}
 use borrow.Author.Differences.{ints}
-use Rattle.std.specs.List.{AllByRecursion as All}
+use Rattle.std.specs.List.{AllByRecursion}
 use Rattle.std.specs.List.Sorted.{IsPermutation}
 use Rattle.std.proofs.ByRecursion.{All-append, All-weaker}
 use Rattle.std.proofs.lemmas.List.{append-nil, append_assoc, map-append}
@@ -29,7 +29,7 @@ use Rattle.allocation.proofs.SplitFacts.{Reached, SplitLaws, split_laws}
 abbrev Ends : ℤ → ℕ → List Level → Type 0
 Ends own r ls = (r ≡ 0) ⊎ Among own ls
 
-above_among : (z own : ℤ) (ls : List Level) → All (λ (k : Level). z <ℤ k.price) ls → Among own ls → z <ℤ own
+above_among : (z own : ℤ) (ls : List Level) → AllByRecursion (λ (k : Level). z <ℤ k.price) ls → Among own ls → z <ℤ own
 above_among z own [] a i = absurd i
 above_among z own (l ∷ ls) (h, a) (inl e) = subst (λ (x : ℤ). z <ℤ x) e h
 above_among z own (l ∷ ls) (h, a) (inr i) = above_among z own ls a i
@@ -50,7 +50,7 @@ module _ (side : Side) (t : ContraTerms) (floor : ℤ) (low : floor ≤ℤ contr
   own = contra_level t.guarantee.kind t
 
   abbrev Standing : List Level → Type 0
-  Standing ls = All (Stands floor t.initiating) (flat ls)
+  Standing ls = AllByRecursion (Stands floor t.initiating) (flat ls)
 
   -- the rows of the first level, and those of the later levels
   abbrev first : Level → ℕ → ℕ → List FillRow
@@ -78,7 +78,7 @@ module _ (side : Side) (t : ContraTerms) (floor : ℤ) (low : floor ≤ℤ contr
   later_ends : (l : Level) (ls : List Level) (r m : ℕ) → Ends own r (l ∷ ls) → Ends own (r - taken (split_at t l r m)) ls
   later_ends l ls r m ends = ends_next own r (taken (split_at t l r m)) l ls (level_split l r m).at_own ends
 
-  pub fills_told : (ls : List Level) (r m : ℕ) → All Holds ls → Standing ls → map row_told (kept of_response (fills side t ls r m)) ≡ map (response_told side) (flat ls)
+  pub fills_told : (ls : List Level) (r m : ℕ) → AllByRecursion Holds ls → Standing ls → map row_told (kept of_response (fills side t ls r m)) ≡ map (response_told side) (flat ls)
   fills_told [] r m holds st = refl
   fills_told (l ∷ ls) r m (h, holds) st =
       let A : List FillRow = first l r m in
@@ -92,14 +92,14 @@ module _ (side : Side) (t : ContraTerms) (floor : ℤ) (low : floor ≤ℤ contr
       ∙ ap (λ (x : List Told). tell l.customers ++ x) (sym (map-append (response_told side) l.others (flat ls)))
       ∙ sym (map-append (response_told side) l.customers (l.others ++ flat ls))
 
-  pub fills_contras : (ls : List Level) (r m : ℕ) → All Holds ls → Standing ls → All (λ (f : FillRow). of_response f ≡ false → ContraRow f) (fills side t ls r m)
+  pub fills_contras : (ls : List Level) (r m : ℕ) → AllByRecursion Holds ls → Standing ls → AllByRecursion (λ (f : FillRow). of_response f ≡ false → ContraRow f) (fills side t ls r m)
   fills_contras [] r m holds st = tt
   fills_contras (l ∷ ls) r m (h, holds) st =
       All-append (λ (f : FillRow). of_response f ≡ false → ContraRow f) (first l r m) (later l ls r m)
       (first_laws l ls r m h st).contras
       (fills_contras ls (r - taken (split_at t l r m)) (m + (split_at t l r m).contra) holds (later_stand l ls st))
 
-  pub fills_filled : (ls : List Level) (r m : ℕ) → All Holds ls → Standing ls → Ends own r ls → filled_in (fills side t ls r m) ≡ r
+  pub fills_filled : (ls : List Level) (r m : ℕ) → AllByRecursion Holds ls → Standing ls → Ends own r ls → filled_in (fills side t ls r m) ≡ r
   fills_filled [] r m holds st ends = elim ends [ inl e ↦ sym e | inr i ↦ absurd i ]
   fills_filled (l ∷ ls) r m (h, holds) st ends =
       omega (
@@ -110,7 +110,7 @@ module _ (side : Side) (t : ContraTerms) (floor : ℤ) (low : floor ≤ℤ contr
         fills_filled ls (r - taken (split_at t l r m)) (m + (split_at t l r m).contra) holds (later_stand l ls st) (later_ends l ls r m ends),
       )
 
-  pub fills_in_range : (ls : List Level) (r m : ℕ) → All Holds ls → Ascending ls → Standing ls → Ends own r ls → All (λ (f : FillRow). 0 < f.filled → (floor ≤ℤ turned side f.price) × (turned side f.price ≤ℤ t.initiating)) (fills side t ls r m)
+  pub fills_in_range : (ls : List Level) (r m : ℕ) → AllByRecursion Holds ls → Ascending ls → Standing ls → Ends own r ls → AllByRecursion (λ (f : FillRow). 0 < f.filled → (floor ≤ℤ turned side f.price) × (turned side f.price ≤ℤ t.initiating)) (fills side t ls r m)
   fills_in_range [] r m holds up st ends = tt
   fills_in_range (l ∷ ls) r m (h, holds) up st ends =
       All-append (λ (f : FillRow). 0 < f.filled → (floor ≤ℤ turned side f.price) × (turned side f.price ≤ℤ t.initiating)) (first l r m) (later l ls r m)
@@ -118,30 +118,30 @@ module _ (side : Side) (t : ContraTerms) (floor : ℤ) (low : floor ≤ℤ contr
       (fills_in_range ls (r - taken (split_at t l r m)) (m + (split_at t l r m).contra) holds up.1 (later_stand l ls st) (later_ends l ls r m ends))
 
   -- with nothing left no row trades
-  fills_none : (ls : List Level) (r m : ℕ) → All Holds ls → Standing ls → r ≡ 0 → All (λ (f : FillRow). f.filled ≡ 0) (fills side t ls r m)
+  fills_none : (ls : List Level) (r m : ℕ) → AllByRecursion Holds ls → Standing ls → r ≡ 0 → AllByRecursion (λ (f : FillRow). f.filled ≡ 0) (fills side t ls r m)
   fills_none ls r m holds st e = rows_none (fills side t ls r m) (fills_filled ls r m holds st (inl e) ∙ e)
 
   -- the rows of the first level are at its price, and those of later levels above it
-  first_at : (l : Level) (ls : List Level) (r m : ℕ) → Holds l → Standing (l ∷ ls) → All (λ (f : FillRow). turned side f.price ≡ l.price) (first l r m)
+  first_at : (l : Level) (ls : List Level) (r m : ℕ) → Holds l → Standing (l ∷ ls) → AllByRecursion (λ (f : FillRow). turned side f.price ≡ l.price) (first l r m)
   first_at l ls r m h st =
       All-weaker (λ (f : FillRow). f.price ≡ turned side l.price) (λ (f : FillRow). turned side f.price ≡ l.price)
       (λ f e. ap (turned side) e ∙ turned_twice side l.price) (first l r m) (first_laws l ls r m h st).at_price
 
-  fills_above : (z : ℤ) (ls : List Level) (r m : ℕ) → All Holds ls → Standing ls → All (λ (k : Level). z <ℤ k.price) ls → All (λ (f : FillRow). z <ℤ turned side f.price) (fills side t ls r m)
+  fills_above : (z : ℤ) (ls : List Level) (r m : ℕ) → AllByRecursion Holds ls → Standing ls → AllByRecursion (λ (k : Level). z <ℤ k.price) ls → AllByRecursion (λ (f : FillRow). z <ℤ turned side f.price) (fills side t ls r m)
   fills_above z [] r m holds st up = tt
   fills_above z (l ∷ ls) r m (h, holds) st (z_below, up) =
       All-append (λ (f : FillRow). z <ℤ turned side f.price) (first l r m) (later l ls r m)
       (All-weaker (λ (f : FillRow). turned side f.price ≡ l.price) (λ (f : FillRow). z <ℤ turned side f.price) (λ f e. subst (λ (x : ℤ). z <ℤ x) (sym e) z_below) (first l r m) (first_at l ls r m h st))
       (fills_above z ls (r - taken (split_at t l r m)) (m + (split_at t l r m).contra) holds (later_stand l ls st) up)
 
-  later_above : (l : Level) (ls : List Level) (r m : ℕ) → All Holds ls → Ascending (l ∷ ls) → Standing (l ∷ ls) → All (λ (f : FillRow). l.price <ℤ turned side f.price) (later l ls r m)
+  later_above : (l : Level) (ls : List Level) (r m : ℕ) → AllByRecursion Holds ls → Ascending (l ∷ ls) → Standing (l ∷ ls) → AllByRecursion (λ (f : FillRow). l.price <ℤ turned side f.price) (later l ls r m)
   later_above l ls r m holds up st = fills_above l.price ls (r - taken (split_at t l r m)) (m + (split_at t l r m).contra) holds (later_stand l ls st) up.0
 
   -- f does not trade while g, at a better price, has contracts left
   abbrev Better : FillRow → FillRow → Type 0
   Better f g = of_response g ≡ true → 0 < g.left → turned side g.price <ℤ turned side f.price → f.filled ≡ 0
 
-  pub fills_better_first : (ls : List Level) (r m : ℕ) → All Holds ls → Ascending ls → Standing ls → Ends own r ls → All (λ (f : FillRow). All (Better f) (fills side t ls r m)) (fills side t ls r m)
+  pub fills_better_first : (ls : List Level) (r m : ℕ) → AllByRecursion Holds ls → Ascending ls → Standing ls → Ends own r ls → AllByRecursion (λ (f : FillRow). AllByRecursion (Better f) (fills side t ls r m)) (fills side t ls r m)
   fills_better_first [] r m holds up st ends = tt
   fills_better_first (l ∷ ls) r m (h, holds) up st ends =
       pairs_append Better A B
@@ -165,13 +165,13 @@ module _ (side : Side) (t : ContraTerms) (floor : ℤ) (low : floor ≤ℤ contr
       above : FillRow → Type 0
       above f = l.price <ℤ turned side f.price
 
-      at : All here A
+      at : AllByRecursion here A
       at = first_at l ls r m h st
 
-      over : All above B
+      over : AllByRecursion above B
       over = later_above l ls r m holds up st
 
-      nones : All (λ (f : FillRow). k ≡ r → f.filled ≡ 0) B
+      nones : AllByRecursion (λ (f : FillRow). k ≡ r → f.filled ≡ 0) B
       nones = elim (cases_lt k r) [
         | inl less ↦ all_always (λ (f : FillRow). k ≡ r → f.filled ≡ 0) (λ f e. absurd (omega arith)) B
         | inr all ↦ All-weaker (λ (f : FillRow). f.filled ≡ 0) (λ (f : FillRow). k ≡ r → f.filled ≡ 0) (λ f e _. e) B (fills_none ls (r - k) (m + (split_at t l r m).contra) holds (later_stand l ls st) (omega arith))
@@ -181,11 +181,11 @@ module _ (side : Side) (t : ContraTerms) (floor : ℤ) (low : floor ≤ℤ contr
   abbrev Customers : FillRow → FillRow → Type 0
   Customers f g = g.class ≡ Customer → 0 < g.left → g.price ≡ f.price → f.class ≡ Other → f.filled ≡ 0
 
-  pub fills_customers_first : (ls : List Level) (r m : ℕ) → All Holds ls → Ascending ls → Standing ls → All (λ (f : FillRow). All (Customers f) (fills side t ls r m)) (fills side t ls r m)
+  pub fills_customers_first : (ls : List Level) (r m : ℕ) → AllByRecursion Holds ls → Ascending ls → Standing ls → AllByRecursion (λ (f : FillRow). AllByRecursion (Customers f) (fills side t ls r m)) (fills side t ls r m)
   fills_customers_first [] r m holds up st = tt
   fills_customers_first (l ∷ ls) r m (h, holds) up st =
       pairs_append Customers A B
-      (All-weaker (λ f. All (AtOne f) A) (λ f. All (Customers f) A) (λ f a. All-weaker (AtOne f) (Customers f) (λ g k c some _ o. k c some o) A a) A (first_laws l ls r m h st).customers_first)
+      (All-weaker (λ f. AllByRecursion (AtOne f) A) (λ f. AllByRecursion (Customers f) A) (λ f a. All-weaker (AtOne f) (Customers f) (λ g k c some _ o. k c some o) A a) A (first_laws l ls r m h st).customers_first)
       (all_pairs here above Customers (λ f g a b _ _ e _. absurd (apart f g a b (sym e))) A B at over)
       (all_pairs above here Customers (λ f g a b _ _ e _. absurd (apart g f b a e)) B A over at)
       (fills_customers_first ls (r - taken (split_at t l r m)) (m + (split_at t l r m).contra) holds up.1 (later_stand l ls st))
@@ -208,13 +208,13 @@ module _ (side : Side) (t : ContraTerms) (floor : ℤ) (low : floor ≤ℤ contr
       apart : (f g : FillRow) → here f → above g → f.price ≡ g.price → ⊥
       apart f g a b e = let same = ap (turned side) e in grind (arith, ints)
 
-      at : All here A
+      at : AllByRecursion here A
       at = first_at l ls r m h st
 
-      over : All above B
+      over : AllByRecursion above B
       over = later_above l ls r m holds up st
 
-  pub fills_pro_rata : (ls : List Level) (r m : ℕ) → All Holds ls → Ascending ls → Standing ls → All (λ (f : FillRow). of_response f ≡ true → ProRata (filled_in (classmates f (fills side t ls r m))) (size_in (classmates f (fills side t ls r m))) f) (fills side t ls r m)
+  pub fills_pro_rata : (ls : List Level) (r m : ℕ) → AllByRecursion Holds ls → Ascending ls → Standing ls → AllByRecursion (λ (f : FillRow). of_response f ≡ true → ProRata (filled_in (classmates f (fills side t ls r m))) (size_in (classmates f (fills side t ls r m))) f) (fills side t ls r m)
   fills_pro_rata [] r m holds up st = tt
   fills_pro_rata (l ∷ ls) r m (h, holds) up st =
       All-append (Near (A ++ B)) A B
@@ -237,10 +237,10 @@ module _ (side : Side) (t : ContraTerms) (floor : ℤ) (low : floor ≤ℤ contr
       above : FillRow → Type 0
       above f = l.price <ℤ turned side f.price
 
-      at : All here A
+      at : AllByRecursion here A
       at = first_at l ls r m h st
 
-      over : All above B
+      over : AllByRecursion above B
       over = later_above l ls r m holds up st
 
       mates_in_first : (f : FillRow) → here f → classmates f (A ++ B) ≡ classmates f A
@@ -256,8 +256,8 @@ module _ (side : Side) (t : ContraTerms) (floor : ℤ) (low : floor ≤ℤ contr
 -- The guarantee's price is up to the initiating price; with an auto-match limit above it the contra would take nothing at
 -- its own price, and the order would not be filled.
 pub fills_lawful : (side : Side) (t : ContraTerms) (size : ℕ) (floor : ℤ) (stood : List Response) (ls : List Level)
-    → All Holds ls → Ascending ls → Among (contra_level t.guarantee.kind t) ls → IsPermutation stood (flat ls)
-    → All (λ (x : Response). (0 < x.member) × (0 < x.size) × (floor ≤ℤ x.price) × (x.price ≤ℤ t.initiating)) (flat ls)
+    → AllByRecursion Holds ls → Ascending ls → Among (contra_level t.guarantee.kind t) ls → IsPermutation stood (flat ls)
+    → AllByRecursion (λ (x : Response). (0 < x.member) × (0 < x.size) × (floor ≤ℤ x.price) × (x.price ≤ℤ t.initiating)) (flat ls)
     → (floor ≤ℤ contra_level t.guarantee.kind t) → (t.guarantee.price ≤ℤ t.initiating)
     → FillLaws side size floor t.initiating stood (fills side t ls size 0)
 fills_lawful side t size floor stood ls holds up among shuffled st low high = record {

@@ -6,7 +6,7 @@ use Rattle.std.proofs.lemmas.List.{take_at, drop_at}
 use Rattle.std.proofs.lemmas.List.Sorted.{length_permutation}
 use Rattle.std.proofs.ByRecursion.{all_shuffled}
 use Rattle.std.proofs.lemmas.Bool.Decides.{nat_tests}
-use Rattle.std.specs.List.{AllByRecursion as All}
+use Rattle.std.specs.List.{AllByRecursion}
 use Rattle.market.specs.declared.side.Side.{Side}
 use Rattle.market.specs.Prices.{showable}
 use Rattle.allocation.specs.declared.fill.FillRow.{FillRow}
@@ -104,13 +104,13 @@ one_stands size floor initiating x h =
     let most = both_right (leb 1 x.size) (leb x.size size) sized in
     (grind (arith, nat_tests), grind (arith, nat_tests), grind (arith, nat_tests), both_left (le_z floor x.price) (le_z x.price initiating) r3, both_right (le_z floor x.price) (le_z x.price initiating) r3)
 
-pub all_sized : (size : ℕ) (floor initiating : ℤ) (xs : List Response) → size ≤ 100000 → showable (Some floor) ≡ true → showable (Some initiating) ≡ true → each (response_ok size floor initiating) xs ≡ true → All Sized xs
+pub all_sized : (size : ℕ) (floor initiating : ℤ) (xs : List Response) → size ≤ 100000 → showable (Some floor) ≡ true → showable (Some initiating) ≡ true → each (response_ok size floor initiating) xs ≡ true → AllByRecursion Sized xs
 all_sized size floor initiating [] h a b e = tt
 all_sized size floor initiating (x ∷ xs) h a b e =
     let one = one_stands size floor initiating x (both_left (response_ok size floor initiating x) (each (response_ok size floor initiating) xs) e) in
     ((one.1, omega (arith, one.2), between floor x.price initiating a b one.3 one.4), all_sized size floor initiating xs h a b (both_right (response_ok size floor initiating x) (each (response_ok size floor initiating) xs) e))
 
-all_stand : (size : ℕ) (floor initiating : ℤ) (xs : List Response) → each (response_ok size floor initiating) xs ≡ true → All (λ (x : Response). (0 < x.member) × (0 < x.size) × (floor ≤ℤ x.price) × (x.price ≤ℤ initiating)) xs
+all_stand : (size : ℕ) (floor initiating : ℤ) (xs : List Response) → each (response_ok size floor initiating) xs ≡ true → AllByRecursion (λ (x : Response). (0 < x.member) × (0 < x.size) × (floor ≤ℤ x.price) × (x.price ≤ℤ initiating)) xs
 all_stand size floor initiating [] e = tt
 all_stand size floor initiating (x ∷ xs) e =
     let one = one_stands size floor initiating x (both_left (response_ok size floor initiating x) (each (response_ok size floor initiating) xs) e) in
@@ -149,7 +149,7 @@ pub refused_is : (fs rows : List FillRow) → ltb (length rows) 129 ≡ true →
 refused_is fs rows h = (rw h, rw h)
 
 -- arrivals that a test finds apart are apart
-apart_each : (x : Response) (xs : List Response) → arrival_free x.arrival xs ≡ true → All (λ (y : Response). x.arrival ≡ y.arrival → ⊥) xs
+apart_each : (x : Response) (xs : List Response) → arrival_free x.arrival xs ≡ true → AllByRecursion (λ (y : Response). x.arrival ≡ y.arrival → ⊥) xs
 apart_each x [] h = tt
 apart_each x (y ∷ ys) h =
     let here = both_left (not (eqb x.arrival y.arrival)) (arrival_free x.arrival ys) h in

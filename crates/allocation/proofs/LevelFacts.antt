@@ -3,7 +3,7 @@
 use Rattle.std.proofs.Common.{◌≡◌, ◌<◌, Bool, true, false, cond, not, ◌⊎◌, List, [], ◌∷◌, ◌++◌, length, ℤ, ◌<ℤ◌, sym, refl, ap, ◌∙◌, subst, inl, inr, arith, length-append}
 use borrow.Author.Differences.{ints}
 use lib.Signed.{lt_z}
-use Rattle.std.specs.List.{AllByRecursion as All}
+use Rattle.std.specs.List.{AllByRecursion}
 use Rattle.std.specs.List.Sorted.{IsPermutation}
 use Rattle.std.proofs.ByRecursion.{All-weaker, All-append, all_shuffled}
 use Rattle.std.proofs.lemmas.List.Sorted.{IsPermutation-refl, IsPermutation-trans, IsPermutation-swap, IsPermutation-cons, length_permutation}
@@ -25,20 +25,20 @@ module _ (ahead : Response → Response → Bool) (x : Response) where
       (λ _. IsPermutation-refl (x ∷ y ∷ ys))
       (λ _. IsPermutation-trans (x ∷ y ∷ ys) (y ∷ x ∷ ys) (y ∷ put ahead x ys) (IsPermutation-swap (x ∷ y ∷ ys) (y ∷ x ∷ ys) 0 1 (omega arith) (omega arith) refl) (IsPermutation-cons y (x ∷ ys) (put ahead x ys) (shuffled_put ys)))
 
-  pub all_put : (P : Response → Type 0) (ys : List Response) → P x → All P ys → All P (put ahead x ys)
+  pub all_put : (P : Response → Type 0) (ys : List Response) → P x → AllByRecursion P ys → AllByRecursion P (put ahead x ys)
   all_put P ys p a = all_shuffled P (x ∷ ys) (put ahead x ys) (shuffled_put ys) (p, a)
 
   -- x passes those that it is not ahead of
-  put_past : (ys zs : List Response) → All (λ y. ahead x y ≡ false) ys → put ahead x (ys ++ zs) ≡ ys ++ put ahead x zs
+  put_past : (ys zs : List Response) → AllByRecursion (λ y. ahead x y ≡ false) ys → put ahead x (ys ++ zs) ≡ ys ++ put ahead x zs
   put_past [] zs a = refl
   put_past (y ∷ ys) zs (e, a) = rw e (ap (λ r. y ∷ r) (put_past ys zs a))
 
-  put_first : (ys : List Response) → All (λ y. ahead x y ≡ true) ys → put ahead x ys ≡ x ∷ ys
+  put_first : (ys : List Response) → AllByRecursion (λ y. ahead x y ≡ true) ys → put ahead x ys ≡ x ∷ ys
   put_first [] a = refl
   put_first (y ∷ ys) (e, a) = rw e
 
 -- x is put among those that two rankings judge alike, and before all that follow
-put_among : (f g : Response → Response → Bool) (x : Response) (ys zs : List Response) → All (λ y. f x y ≡ g x y) ys → All (λ z. f x z ≡ true) zs → put f x (ys ++ zs) ≡ put g x ys ++ zs
+put_among : (f g : Response → Response → Bool) (x : Response) (ys zs : List Response) → AllByRecursion (λ y. f x y ≡ g x y) ys → AllByRecursion (λ z. f x z ≡ true) zs → put f x (ys ++ zs) ≡ put g x ys ++ zs
 put_among f g x [] zs alike later = put_first f x zs later
 put_among f g x (y ∷ ys) zs (e, alike) later = rw e (go (g x y) (put_among f g x ys zs alike later))
   where
@@ -46,12 +46,12 @@ put_among f g x (y ∷ ys) zs (e, alike) later = rw e (go (g x y) (put_among f g
     go true ih = refl
     go false ih = ap (λ r. y ∷ r) ih
 
-all_parts : (P : Response → Type 0) (xs ys : List Response) → All P (xs ++ ys) → All P xs × All P ys
+all_parts : (P : Response → Type 0) (xs ys : List Response) → AllByRecursion P (xs ++ ys) → AllByRecursion P xs × AllByRecursion P ys
 all_parts P [] ys a = (tt, a)
 all_parts P (x ∷ xs) ys (p, a) = let both = all_parts P xs ys a in ((p, both.0), both.1)
 
 -- what holds of all responses holds of each level's
-pub all_classes : (P : Response → Type 0) (ls : List Level) → All P (flat ls) → All (λ (l : Level). All P l.customers × All P l.others) ls
+pub all_classes : (P : Response → Type 0) (ls : List Level) → AllByRecursion P (flat ls) → AllByRecursion (λ (l : Level). AllByRecursion P l.customers × AllByRecursion P l.others) ls
 all_classes P [] a = tt
 all_classes P (l ∷ ls) a =
     let first = all_parts P l.customers (l.others ++ flat ls) a in
@@ -59,7 +59,7 @@ all_classes P (l ∷ ls) a =
     ((first.0, rest.0), all_classes P ls rest.1)
 
 -- what is below all levels is below all that they hold
-above_flat : (low : ℤ) (ls : List Level) → All (λ (k : Level). low <ℤ k.price) ls → All Holds ls → All (λ (y : Response). low <ℤ y.price) (flat ls)
+above_flat : (low : ℤ) (ls : List Level) → AllByRecursion (λ (k : Level). low <ℤ k.price) ls → AllByRecursion Holds ls → AllByRecursion (λ (y : Response). low <ℤ y.price) (flat ls)
 above_flat low [] up hs = tt
 above_flat low (l ∷ ls) (below, up) (h, hs) =
     All-append Above l.customers (l.others ++ flat ls) (raised Customer l.customers h.customers_here)
@@ -68,7 +68,7 @@ above_flat low (l ∷ ls) (below, up) (h, hs) =
     Above : Response → Type 0
     Above y = low <ℤ y.price
 
-    raised : (c : Class) (ys : List Response) → All (At l.price c) ys → All (λ (y : Response). low <ℤ y.price) ys
+    raised : (c : Class) (ys : List Response) → AllByRecursion (At l.price c) ys → AllByRecursion (λ (y : Response). low <ℤ y.price) ys
     raised c ys a = All-weaker (At l.price c) (λ (y : Response). low <ℤ y.price) (λ y at. subst (λ p. low <ℤ p) (sym at.0) below) ys a
 
 nothing_held : (price : ℤ) → Holds (empty_level price)
@@ -79,12 +79,12 @@ module _ (ahead : Response → Response → Bool) where
   price_join x l = elim x.class as (λ c. (join_as c ahead x l).price ≡ l.price) [ Customer ↦ refl | Other ↦ refl ]
 
   -- what holds of a level that x makes, of one that it joins and of one that it leaves holds of all
-  pub all_place : (P Q : Level → Type 0) (x : Response) → Q (join ahead x (empty_level x.price)) → ((l : Level) → x.price ≡ l.price → P l → Q (join ahead x l)) → ((l : Level) → P l → Q l) → (ls : List Level) → All P ls → All Q (place ahead x ls)
+  pub all_place : (P Q : Level → Type 0) (x : Response) → Q (join ahead x (empty_level x.price)) → ((l : Level) → x.price ≡ l.price → P l → Q (join ahead x l)) → ((l : Level) → P l → Q l) → (ls : List Level) → AllByRecursion P ls → AllByRecursion Q (place ahead x ls)
   all_place P Q x new joins stays [] a = (new, tt)
   all_place P Q x new joins stays (l ∷ ls) (p, a) =
-      cond_both (lt_z x.price l.price) _ _ (All Q)
+      cond_both (lt_z x.price l.price) _ _ (AllByRecursion Q)
       (λ _. (new, (stays l p, All-weaker P Q stays ls a)))
-      (λ e. cond_both (lt_z l.price x.price) _ _ (All Q)
+      (λ e. cond_both (lt_z l.price x.price) _ _ (AllByRecursion Q)
       (λ _. (stays l p, all_place P Q x new joins stays ls a))
       (λ f. (joins l (grind (arith, ints)) p, All-weaker P Q stays ls a)))
 
@@ -95,15 +95,15 @@ module _ (ahead : Response → Response → Bool) where
       go Customer is = record { customers_here = all_put ahead x (At l.price Customer) l.customers (e, is) h.customers_here; others_here = h.others_here }
       go Other is = record { customers_here = h.customers_here; others_here = all_put ahead x (At l.price Other) l.others (e, is) h.others_here }
 
-  holds_place : (x : Response) (ls : List Level) → All Holds ls → All Holds (place ahead x ls)
+  holds_place : (x : Response) (ls : List Level) → AllByRecursion Holds ls → AllByRecursion Holds (place ahead x ls)
   holds_place x ls h = all_place Holds Holds x (holds_join x (empty_level x.price) refl (nothing_held x.price)) (λ l e k. holds_join x l e k) (λ l k. k) ls h
 
-  pub holds_levels : (contra : ℤ) (xs : List Response) → All Holds (levels ahead contra xs)
+  pub holds_levels : (contra : ℤ) (xs : List Response) → AllByRecursion Holds (levels ahead contra xs)
   holds_levels contra [] = (nothing_held contra, tt)
   holds_levels contra (x ∷ xs) = holds_place x (levels ahead contra xs) (holds_levels contra xs)
 
   -- all levels stay above one that x is above
-  above_place : (low : ℤ) (x : Response) (ls : List Level) → low <ℤ x.price → All (λ (k : Level). low <ℤ k.price) ls → All (λ (k : Level). low <ℤ k.price) (place ahead x ls)
+  above_place : (low : ℤ) (x : Response) (ls : List Level) → low <ℤ x.price → AllByRecursion (λ (k : Level). low <ℤ k.price) ls → AllByRecursion (λ (k : Level). low <ℤ k.price) (place ahead x ls)
   above_place low x ls h a =
       all_place Above Above x
       (subst (λ p. low <ℤ p) (sym (price_join x (empty_level x.price))) h)
@@ -120,9 +120,9 @@ module _ (ahead : Response → Response → Bool) where
       (λ e. (below_all (subst (λ p. p <ℤ l.price) (sym (price_join x (empty_level x.price))) (grind (arith, ints))), (up, a)))
       (λ e. cond_both (lt_z l.price x.price) _ _ Ascending
       (λ f. (above_place l.price x ls (grind (arith, ints)) up, ascending_place x ls a))
-      (λ f. (subst (λ p. All (λ (k : Level). p <ℤ k.price) ls) (sym (price_join x l)) up, a)))
+      (λ f. (subst (λ p. AllByRecursion (λ (k : Level). p <ℤ k.price) ls) (sym (price_join x l)) up, a)))
     where
-      below_all : {p : ℤ} → p <ℤ l.price → All (λ (k : Level). p <ℤ k.price) (l ∷ ls)
+      below_all : {p : ℤ} → p <ℤ l.price → AllByRecursion (λ (k : Level). p <ℤ k.price) (l ∷ ls)
       below_all {p} h = (h, All-weaker (λ (k : Level). l.price <ℤ k.price) (λ (k : Level). p <ℤ k.price) (λ k m. grind (arith, ints)) ls up)
 
   pub ascending_levels : (contra : ℤ) (xs : List Response) → Ascending (levels ahead contra xs)
@@ -163,13 +163,13 @@ module _ (ahead : Response → Response → Bool) where
   flat_new : (x : Response) (ls : List Level) → flat (join ahead x (empty_level x.price) ∷ ls) ≡ x ∷ flat ls
   flat_new x ls = elim x.class as (λ c. flat (join_as c ahead x (empty_level x.price) ∷ ls) ≡ x ∷ flat ls) [ Customer ↦ refl | Other ↦ refl ]
 
-  flat_join : (x : Response) (l : Level) (ls : List Level) → x.price ≡ l.price → Holds l → All (λ (y : Response). x.price <ℤ y.price) (flat ls) → flat (join ahead x l ∷ ls) ≡ put (before ahead) x (flat (l ∷ ls))
+  flat_join : (x : Response) (l : Level) (ls : List Level) → x.price ≡ l.price → Holds l → AllByRecursion (λ (y : Response). x.price <ℤ y.price) (flat ls) → flat (join ahead x l ∷ ls) ≡ put (before ahead) x (flat (l ∷ ls))
   flat_join x l ls e h up = go x.class refl
     where
-      judged : (c d : Class) → x.class ≡ c → (ys : List Response) → All (At l.price d) ys → All (λ (y : Response). before ahead x y ≡ class_before c d (ahead x y)) ys
+      judged : (c d : Class) → x.class ≡ c → (ys : List Response) → AllByRecursion (At l.price d) ys → AllByRecursion (λ (y : Response). before ahead x y ≡ class_before c d (ahead x y)) ys
       judged c d is ys a = All-weaker (At l.price d) (λ (y : Response). before ahead x y ≡ class_before c d (ahead x y)) (λ y at. before_level x y c d is (at.0 ∙ sym e, at.1)) ys a
 
-      later : All (λ (y : Response). before ahead x y ≡ true) (flat ls)
+      later : AllByRecursion (λ (y : Response). before ahead x y ≡ true) (flat ls)
       later = All-weaker (λ (y : Response). x.price <ℤ y.price) (λ (y : Response). before ahead x y ≡ true) (before_lower x) (flat ls) up
 
       go : (c : Class) → x.class ≡ c → flat (join_as c ahead x l ∷ ls) ≡ put (before ahead) x (flat (l ∷ ls))
@@ -182,7 +182,7 @@ module _ (ahead : Response → Response → Bool) where
           ∙ ap (λ r. l.customers ++ r) (put_among (before ahead) ahead x l.others (flat ls) (judged Other Other is l.others h.others_here) later))
 
   -- to place a response in its level is to put it into the whole order
-  pub flat_place : (x : Response) (ls : List Level) → All Holds ls → Ascending ls → flat (place ahead x ls) ≡ put (before ahead) x (flat ls)
+  pub flat_place : (x : Response) (ls : List Level) → AllByRecursion Holds ls → Ascending ls → flat (place ahead x ls) ≡ put (before ahead) x (flat ls)
   flat_place x [] hs a = flat_new x []
   flat_place x (l ∷ ls) (h, hs) (up, a) =
       cond_both (lt_z x.price l.price) _ _ Right
@@ -194,12 +194,12 @@ module _ (ahead : Response → Response → Bool) where
       Right : List Level → Type 0
       Right ks = flat ks ≡ put (before ahead) x (flat (l ∷ ls))
 
-      first : x.price <ℤ l.price → All (λ (y : Response). before ahead x y ≡ true) (flat (l ∷ ls))
+      first : x.price <ℤ l.price → AllByRecursion (λ (y : Response). before ahead x y ≡ true) (flat (l ∷ ls))
       first low =
           All-weaker (λ (y : Response). x.price <ℤ y.price) (λ (y : Response). before ahead x y ≡ true) (before_lower x) (flat (l ∷ ls))
           (above_flat x.price (l ∷ ls) (low, All-weaker (λ (k : Level). l.price <ℤ k.price) (λ (k : Level). x.price <ℤ k.price) (λ k m. grind (arith, ints)) ls up) (h, hs))
 
-      lower : l.price <ℤ x.price → (c : Class) (ys : List Response) → All (At l.price c) ys → All (λ (y : Response). before ahead x y ≡ false) ys
+      lower : l.price <ℤ x.price → (c : Class) (ys : List Response) → AllByRecursion (At l.price c) ys → AllByRecursion (λ (y : Response). before ahead x y ≡ false) ys
       lower low c ys at = All-weaker (At l.price c) (λ (y : Response). before ahead x y ≡ false) (λ y k. before_higher x y (subst (λ p. p <ℤ x.price) (sym k.0) low)) ys at
 
       past : l.price <ℤ x.price → flat (place ahead x ls) ≡ put (before ahead) x (flat ls) → flat (l ∷ place ahead x ls) ≡ put (before ahead) x (flat (l ∷ ls))
@@ -209,7 +209,7 @@ module _ (ahead : Response → Response → Bool) where
           ∙ sym (put_past (before ahead) x l.customers (l.others ++ flat ls) (lower low Customer l.customers h.customers_here))
 
       joined : x.price ≡ l.price → flat (join ahead x l ∷ ls) ≡ put (before ahead) x (flat (l ∷ ls))
-      joined e = flat_join x l ls e h (subst (λ p. All (λ (y : Response). p <ℤ y.price) (flat ls)) (sym e) (above_flat l.price ls up hs))
+      joined e = flat_join x l ls e h (subst (λ p. AllByRecursion (λ (y : Response). p <ℤ y.price) (flat ls)) (sym e) (above_flat l.price ls up hs))
 
   pub flat_arranged : (contra : ℤ) (xs : List Response) → flat (levels ahead contra xs) ≡ arranged ahead xs
   flat_arranged contra [] = refl
@@ -223,7 +223,7 @@ module _ (ahead : Response → Response → Bool) where
       ]
 
   -- only the contra's level may be empty
-  pub filled_or_contra : (contra : ℤ) (xs : List Response) → All (λ (l : Level). (l.price ≡ contra) ⊎ (0 < length (l.customers ++ l.others))) (levels ahead contra xs)
+  pub filled_or_contra : (contra : ℤ) (xs : List Response) → AllByRecursion (λ (l : Level). (l.price ≡ contra) ⊎ (0 < length (l.customers ++ l.others))) (levels ahead contra xs)
   filled_or_contra contra [] = (inl refl, tt)
   filled_or_contra contra (x ∷ xs) =
       all_place Filled Filled x (inr (filled_join x (empty_level x.price))) (λ l _ _. inr (filled_join x l)) (λ l k. k) (levels ahead contra xs) (filled_or_contra contra xs)
@@ -241,13 +241,13 @@ module _ (ahead : Response → Response → Bool) where
   pub shuffled_flat : (contra : ℤ) (xs : List Response) → IsPermutation xs (flat (levels ahead contra xs))
   shuffled_flat contra xs = subst (IsPermutation xs) (sym (flat_arranged contra xs)) (shuffled_arranged xs)
 
-  pub all_flat : (P : Response → Type 0) (contra : ℤ) (xs : List Response) → All P xs → All P (flat (levels ahead contra xs))
+  pub all_flat : (P : Response → Type 0) (contra : ℤ) (xs : List Response) → AllByRecursion P xs → AllByRecursion P (flat (levels ahead contra xs))
   all_flat P contra xs a = all_shuffled P xs (flat (levels ahead contra xs)) (shuffled_flat contra xs) a
 
 -- no two arrived together
 abbrev pub Apart : List Response → Type 0
 Apart [] = Unit {0}
-Apart (x ∷ xs) = All (λ (y : Response). x.arrival ≡ y.arrival → ⊥) xs × Apart xs
+Apart (x ∷ xs) = AllByRecursion (λ (y : Response). x.arrival ≡ y.arrival → ⊥) xs × Apart xs
 
 abbrev BothOrdered : (Response → Response → Bool) → Level → Type 0
 BothOrdered ahead l = Ordered ahead l.customers × Ordered ahead l.others
@@ -257,14 +257,14 @@ NotWith x y = x.arrival ≡ y.arrival → ⊥
 
 -- x arrived with none that the level holds
 abbrev WithNone : Response → Level → Type 0
-WithNone x l = All (NotWith x) l.customers × All (NotWith x) l.others
+WithNone x l = AllByRecursion (NotWith x) l.customers × AllByRecursion (NotWith x) l.others
 
-all_both : (P Q : Level → Type 0) (ls : List Level) → All P ls → All Q ls → All (λ (l : Level). P l × Q l) ls
+all_both : (P Q : Level → Type 0) (ls : List Level) → AllByRecursion P ls → AllByRecursion Q ls → AllByRecursion (λ (l : Level). P l × Q l) ls
 all_both P Q [] a b = tt
 all_both P Q (l ∷ ls) (p, a) (q, b) = ((p, q), all_both P Q ls a b)
 
 module _ (rank : Key → Key → Bool) (one_ahead : (x y : Key) → (x.arrival ≡ y.arrival → ⊥) → rank x y ≡ not (rank y x)) (carries_on : (x y z : Key) → rank x y ≡ true → rank y z ≡ true → rank x z ≡ true) where
-  ordered_put : (x : Response) (ys : List Response) → All (NotWith x) ys → Ordered (by_key rank) ys → Ordered (by_key rank) (put (by_key rank) x ys)
+  ordered_put : (x : Response) (ys : List Response) → AllByRecursion (NotWith x) ys → Ordered (by_key rank) ys → Ordered (by_key rank) (put (by_key rank) x ys)
   ordered_put x [] apart o = (tt, tt)
   ordered_put x (y ∷ ys) (apart, aparts) (first, o) =
       cond_both (by_key rank x y) (x ∷ y ∷ ys) (y ∷ put (by_key rank) x ys) (Ordered (by_key rank))
@@ -279,7 +279,7 @@ module _ (rank : Key → Key → Bool) (one_ahead : (x y : Key) → (x.arrival �
       ]
 
   -- where no two arrived together, each class of each level is in ranking order
-  pub ordered_classes : (contra : ℤ) (xs : List Response) → Apart xs → All (λ (l : Level). Ordered (by_key rank) l.customers × Ordered (by_key rank) l.others) (levels (by_key rank) contra xs)
+  pub ordered_classes : (contra : ℤ) (xs : List Response) → Apart xs → AllByRecursion (λ (l : Level). Ordered (by_key rank) l.customers × Ordered (by_key rank) l.others) (levels (by_key rank) contra xs)
   ordered_classes contra [] a = ((tt, tt), tt)
   ordered_classes contra (x ∷ xs) (apart, a) =
       let ls : List Level = levels (by_key rank) contra xs in

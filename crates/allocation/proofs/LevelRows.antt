@@ -1,7 +1,7 @@
 -- What the rows of one level come to, each law of the fill list at that level alone.
 use Rattle.std.proofs.Common.{◌≡◌, ℕ, ◌+◌, ◌<◌, Bool, true, false, ltb, List, [], ◌∷◌, ◌++◌, map, ℤ, ◌≤ℤ◌, sym, refl, ap, ◌∙◌, subst, inl, inr, arith}
 use borrow.Author.Differences.{ints}
-use Rattle.std.specs.List.{AllByRecursion as All}
+use Rattle.std.specs.List.{AllByRecursion}
 use Rattle.std.proofs.ByRecursion.{All-append, All-weaker}
 use Rattle.std.proofs.lemmas.List.{append-nil, map-append}
 use Rattle.std.proofs.lemmas.Bool.{ltb-true, ltb-false, cases_lt, cond_both, both_ways}
@@ -31,12 +31,12 @@ Stands floor initiating x = (0 < x.member) × (0 < x.size) × (floor ≤ℤ x.pr
 
 -- rows of k contracts that the contra got at a price
 record ContraRows (side : Side) (price : ℤ) (k : ℕ) (rows : List FillRow) : Type 0 where
-  at_price : All (λ (f : FillRow). f.price ≡ turned side price) rows
-  of_class : All (λ (f : FillRow). f.class ≡ Other) rows
-  of_none : All (λ (f : FillRow). of_response f ≡ false) rows
-  are_contra : All ContraRow rows
+  at_price : AllByRecursion (λ (f : FillRow). f.price ≡ turned side price) rows
+  of_class : AllByRecursion (λ (f : FillRow). f.class ≡ Other) rows
+  of_none : AllByRecursion (λ (f : FillRow). of_response f ≡ false) rows
+  are_contra : AllByRecursion ContraRow rows
   filled_is : filled_in rows ≡ k
-  each_filled : All (λ (f : FillRow). f.filled ≡ k) rows
+  each_filled : AllByRecursion (λ (f : FillRow). f.filled ≡ k) rows
 
 contra_laws : (side : Side) (price : ℤ) (k : ℕ) → ContraRows side price k (contra_rows side price k)
 contra_laws side price k =
@@ -52,7 +52,7 @@ contra_laws side price k =
     (λ e. record { at_price = tt; of_class = tt; of_none = tt; are_contra = tt; filled_is = omega (arith, ltb-false 0 k e); each_filled = tt })
 
 -- where something is asked for, the price is in the range
-asked_range : (floor initiating price : ℤ) (c : Class) (xs : List Response) → All (At price c) xs → All (Stands floor initiating) xs → 0 < total (sizes xs) → (floor ≤ℤ price) × (price ≤ℤ initiating)
+asked_range : (floor initiating price : ℤ) (c : Class) (xs : List Response) → AllByRecursion (At price c) xs → AllByRecursion (Stands floor initiating) xs → 0 < total (sizes xs) → (floor ≤ℤ price) × (price ≤ℤ initiating)
 asked_range floor initiating price c [] here stand h = absurd (omega arith)
 asked_range floor initiating price c (x ∷ xs) (at, here) (s, stand) h =
     let is : x.price ≡ price = at.0 in
@@ -65,13 +65,13 @@ own_in_range AutoMatchLimit t h = grind (arith, ints)
 -- rows of a level, with a split s of the r contracts that were left
 pub record LevelLaws (side : Side) (own floor initiating : ℤ) (l : Level) (r : ℕ) (s : Split) (rows : List FillRow) : Type 0 where
   pub told : map row_told (kept of_response rows) ≡ map (response_told side) l.customers ++ map (response_told side) l.others
-  pub contras : All (λ (f : FillRow). of_response f ≡ false → ContraRow f) rows
+  pub contras : AllByRecursion (λ (f : FillRow). of_response f ≡ false → ContraRow f) rows
   pub filled_is : filled_in rows ≡ taken s
-  pub at_price : All (λ (f : FillRow). f.price ≡ turned side l.price) rows
-  pub in_range : Reached own l.price r → All (λ (f : FillRow). 0 < f.filled → (floor ≤ℤ turned side f.price) × (turned side f.price ≤ℤ initiating)) rows
-  pub lack : Reached own l.price r → All (λ (g : FillRow). of_response g ≡ true → 0 < g.left → taken s ≡ r) rows
-  pub customers_first : All (λ (f : FillRow). All (λ (g : FillRow). g.class ≡ Customer → 0 < g.left → f.class ≡ Other → f.filled ≡ 0) rows) rows
-  pub pro_rata : All (λ (f : FillRow). of_response f ≡ true → ProRata (filled_in (classmates f rows)) (size_in (classmates f rows)) f) rows
+  pub at_price : AllByRecursion (λ (f : FillRow). f.price ≡ turned side l.price) rows
+  pub in_range : Reached own l.price r → AllByRecursion (λ (f : FillRow). 0 < f.filled → (floor ≤ℤ turned side f.price) × (turned side f.price ≤ℤ initiating)) rows
+  pub lack : Reached own l.price r → AllByRecursion (λ (g : FillRow). of_response g ≡ true → 0 < g.left → taken s ≡ r) rows
+  pub customers_first : AllByRecursion (λ (f : FillRow). AllByRecursion (λ (g : FillRow). g.class ≡ Customer → 0 < g.left → f.class ≡ Other → f.filled ≡ 0) rows) rows
+  pub pro_rata : AllByRecursion (λ (f : FillRow). of_response f ≡ true → ProRata (filled_in (classmates f rows)) (size_in (classmates f rows)) f) rows
 
 not_both : (c : Class) → c ≡ Customer → c ≡ Other → ⊥
 not_both c p q = let z : ◌≡◌ {A = ℕ} 0 1 = cc in omega arith
@@ -82,7 +82,7 @@ module _ (side : Side) (own floor initiating : ℤ) (l : Level) (r : ℕ) (s : S
     (os : ClassRows side l.price Other s.others (total (sizes l.others)) l.others O)
     (laws : SplitLaws own l.price r (total (sizes l.customers)) (total (sizes l.others)) s) where
   -- what holds of the rows of each of the three holds of the level's
-  all_three : (P : FillRow → Type 0) → All P C → All P K → All P O → All P (C ++ (K ++ O))
+  all_three : (P : FillRow → Type 0) → AllByRecursion P C → AllByRecursion P K → AllByRecursion P O → AllByRecursion P (C ++ (K ++ O))
   all_three P a b c = All-append P C (K ++ O) a (All-append P K O b c)
 
   kept_three : (p : FillRow → Bool) (x y z : List FillRow) → kept p C ≡ x → kept p K ≡ y → kept p O ≡ z → kept p (C ++ (K ++ O)) ≡ x ++ (y ++ z)
@@ -96,7 +96,7 @@ module _ (side : Side) (own floor initiating : ℤ) (l : Level) (r : ℕ) (s : S
       let o = os.told in
       cc (ap (map row_told) rows)
 
-  level_contras : All (λ (f : FillRow). of_response f ≡ false → ContraRow f) (C ++ (K ++ O))
+  level_contras : AllByRecursion (λ (f : FillRow). of_response f ≡ false → ContraRow f) (C ++ (K ++ O))
   level_contras =
       all_three (λ f. of_response f ≡ false → ContraRow f)
       (All-weaker (λ f. of_response f ≡ true) (λ f. of_response f ≡ false → ContraRow f) (λ f y n. absurd (both_ways (of_response f) n y)) C cs.of_responses)
@@ -106,10 +106,10 @@ module _ (side : Side) (own floor initiating : ℤ) (l : Level) (r : ℕ) (s : S
   level_filled : filled_in (C ++ (K ++ O)) ≡ taken s
   level_filled = omega (arith, sum_append (λ (f : FillRow). f.filled) C (K ++ O), sum_append (λ (f : FillRow). f.filled) K O, cs.filled_is, ks.filled_is, os.filled_is)
 
-  level_price : All (λ (f : FillRow). f.price ≡ turned side l.price) (C ++ (K ++ O))
+  level_price : AllByRecursion (λ (f : FillRow). f.price ≡ turned side l.price) (C ++ (K ++ O))
   level_price = all_three (λ f. f.price ≡ turned side l.price) cs.at_price ks.at_price os.at_price
 
-  level_range : (0 < taken s → (floor ≤ℤ l.price) × (l.price ≤ℤ initiating)) → All (λ (f : FillRow). 0 < f.filled → (floor ≤ℤ turned side f.price) × (turned side f.price ≤ℤ initiating)) (C ++ (K ++ O))
+  level_range : (0 < taken s → (floor ≤ℤ l.price) × (l.price ≤ℤ initiating)) → AllByRecursion (λ (f : FillRow). 0 < f.filled → (floor ≤ℤ turned side f.price) × (turned side f.price ≤ℤ initiating)) (C ++ (K ++ O))
   level_range h =
       let P : FillRow → Type 0 = λ f. 0 < f.filled → (floor ≤ℤ turned side f.price) × (turned side f.price ≤ℤ initiating) in
       elim (cases_lt 0 (taken s)) [
@@ -117,7 +117,7 @@ module _ (side : Side) (own floor initiating : ℤ) (l : Level) (r : ℕ) (s : S
         | inr none ↦ All-weaker (λ f. f.filled ≡ 0) P (λ f e k. absurd (omega arith)) (C ++ (K ++ O)) (rows_none (C ++ (K ++ O)) (omega (arith, level_filled)))
       ]
 
-  level_lack : Reached own l.price r → All (λ (g : FillRow). of_response g ≡ true → 0 < g.left → taken s ≡ r) (C ++ (K ++ O))
+  level_lack : Reached own l.price r → AllByRecursion (λ (g : FillRow). of_response g ≡ true → 0 < g.left → taken s ≡ r) (C ++ (K ++ O))
   level_lack reached =
       let P : FillRow → Type 0 = λ g. of_response g ≡ true → 0 < g.left → taken s ≡ r in
       all_three P
@@ -125,7 +125,7 @@ module _ (side : Side) (own floor initiating : ℤ) (l : Level) (r : ℕ) (s : S
       (All-weaker (λ g. of_response g ≡ false) P (λ g n y _. absurd (both_ways (of_response g) n y)) K ks.of_none)
       (All-weaker (λ g. 0 < g.left → s.others < total (sizes l.others)) P (λ g h _ k. laws.others_lack reached (h k)) O os.lack)
 
-  level_customers : All (λ (f : FillRow). All (λ (g : FillRow). g.class ≡ Customer → 0 < g.left → f.class ≡ Other → f.filled ≡ 0) (C ++ (K ++ O))) (C ++ (K ++ O))
+  level_customers : AllByRecursion (λ (f : FillRow). AllByRecursion (λ (g : FillRow). g.class ≡ Customer → 0 < g.left → f.class ≡ Other → f.filled ≡ 0) (C ++ (K ++ O))) (C ++ (K ++ O))
   level_customers = elim (cases_lt s.customers (total (sizes l.customers))) [
     | inl less ↦
         let none = laws.customers_lack less in
@@ -170,7 +170,7 @@ module _ (side : Side) (own floor initiating : ℤ) (l : Level) (r : ℕ) (s : S
       (kept_all (mate f) O (all_both (λ g. of_response g ≡ true) (λ g. (g.class ≡ Other) × (g.price ≡ turned side l.price)) (λ g. mate f g ≡ true) (λ g y h. mate_same f g y (c ∙ sym h.0) (p ∙ sym h.1)) O os.of_responses
       (all_both (λ g. g.class ≡ Other) (λ g. g.price ≡ turned side l.price) (λ g. (g.class ≡ Other) × (g.price ≡ turned side l.price)) (λ g a b. (a, b)) O os.of_class os.at_price)))
 
-  level_near : All (λ (f : FillRow). of_response f ≡ true → ProRata (filled_in (classmates f (C ++ (K ++ O)))) (size_in (classmates f (C ++ (K ++ O)))) f) (C ++ (K ++ O))
+  level_near : AllByRecursion (λ (f : FillRow). of_response f ≡ true → ProRata (filled_in (classmates f (C ++ (K ++ O)))) (size_in (classmates f (C ++ (K ++ O)))) f) (C ++ (K ++ O))
   level_near =
       all_three P
       (all_both (λ f. (f.class ≡ Customer) × (f.price ≡ turned side l.price)) (ProRata s.customers (total (sizes l.customers))) P
@@ -194,7 +194,7 @@ module _ (side : Side) (own floor initiating : ℤ) (l : Level) (r : ℕ) (s : S
       given : (f : FillRow) (gs : List FillRow) (k n : ℕ) → filled_in gs ≡ k → size_in gs ≡ n → ProRata k n f → ProRata (filled_in gs) (size_in gs) f
       given f gs k n a b h = subst (λ (x : ℕ). ProRata x (size_in gs) f) (sym a) (subst (λ (x : ℕ). ProRata k x f) (sym b) h)
 
-pub level_laws : (side : Side) (t : ContraTerms) (floor : ℤ) (l : Level) (r m : ℕ) → Holds l → All (Stands floor t.initiating) l.customers → All (Stands floor t.initiating) l.others → floor ≤ℤ contra_level t.guarantee.kind t → t.guarantee.price ≤ℤ t.initiating → LevelLaws side (contra_level t.guarantee.kind t) floor t.initiating l r (split_at t l r m) (level_rows side l (split_at t l r m))
+pub level_laws : (side : Side) (t : ContraTerms) (floor : ℤ) (l : Level) (r m : ℕ) → Holds l → AllByRecursion (Stands floor t.initiating) l.customers → AllByRecursion (Stands floor t.initiating) l.others → floor ≤ℤ contra_level t.guarantee.kind t → t.guarantee.price ≤ℤ t.initiating → LevelLaws side (contra_level t.guarantee.kind t) floor t.initiating l r (split_at t l r m) (level_rows side l (split_at t l r m))
 level_laws side t floor l r m holds customers others low high =
     record {
       told = level_told side own floor t.initiating l r s C K O cs ks os laws;
@@ -231,10 +231,10 @@ level_laws side t floor l r m holds customers others low high =
     O : List FillRow
     O = shared_rows side s.others l.others
 
-    members : (xs : List Response) → All (Stands floor t.initiating) xs → All (λ (x : Response). 0 < x.member) xs
+    members : (xs : List Response) → AllByRecursion (Stands floor t.initiating) xs → AllByRecursion (λ (x : Response). 0 < x.member) xs
     members xs a = All-weaker (Stands floor t.initiating) (λ (x : Response). 0 < x.member) (λ x h. h.0) xs a
 
-    some : (xs : List Response) → All (Stands floor t.initiating) xs → All (λ (x : Response). 0 < x.size) xs
+    some : (xs : List Response) → AllByRecursion (Stands floor t.initiating) xs → AllByRecursion (λ (x : Response). 0 < x.size) xs
     some xs a = All-weaker (Stands floor t.initiating) (λ (x : Response). 0 < x.size) (λ x h. h.1) xs a
 
     cs : ClassRows side l.price Customer s.customers c l.customers C

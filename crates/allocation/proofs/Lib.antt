@@ -18,3 +18,4 @@ mod OwnResponses
 mod AuctionKept
 mod OwnsKept
 mod FewResponses
+pub mod ByOwnNumber

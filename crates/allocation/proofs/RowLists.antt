@@ -1,6 +1,6 @@
 -- Lists of rows: what a test keeps, sums, pairs of rows of two lists, and lists with the same elements under a map.
 use Rattle.std.proofs.Common.{◌≡◌, ℕ, zero, suc, ◌+◌, Bool, true, false, cond, List, [], ◌∷◌, ◌++◌, map, get_or, set, sym, refl, ap, ◌∙◌, subst, arith}
-use Rattle.std.specs.List.{AllByRecursion as All, swap}
+use Rattle.std.specs.List.{AllByRecursion, swap}
 use Rattle.std.specs.List.Sorted.{IsPermutation, apply_swaps, SwapsInRange}
 use Rattle.std.proofs.ByRecursion.{All-append}
 use Rattle.std.proofs.lemmas.List.{length-map, map-set}
@@ -16,11 +16,11 @@ module _ {X : Type 0} (p : X → Bool) where
         | false ↦ kept_append xs ys
       ]
 
-  pub kept_none : (xs : List X) → All (λ x. p x ≡ false) xs → kept p xs ≡ []
+  pub kept_none : (xs : List X) → AllByRecursion (λ x. p x ≡ false) xs → kept p xs ≡ []
   kept_none [] a = refl
   kept_none (x ∷ xs) (e, a) = ap (λ b. cond b (x ∷ kept p xs) (kept p xs)) e ∙ kept_none xs a
 
-  pub kept_all : (xs : List X) → All (λ x. p x ≡ true) xs → kept p xs ≡ xs
+  pub kept_all : (xs : List X) → AllByRecursion (λ x. p x ≡ true) xs → kept p xs ≡ xs
   kept_all [] a = refl
   kept_all (x ∷ xs) (e, a) = ap (λ b. cond b (x ∷ kept p xs) (kept p xs)) e ∙ ap (λ (zs : List X). x ∷ zs) (kept_all xs a)
 
@@ -29,33 +29,33 @@ module _ {X : Type 0} where
   sum_append f [] ys = omega arith
   sum_append f (x ∷ xs) ys = omega (arith, sum_append f xs ys)
 
-  pub all_both : (P Q R : X → Type 0) → ((x : X) → P x → Q x → R x) → (xs : List X) → All P xs → All Q xs → All R xs
+  pub all_both : (P Q R : X → Type 0) → ((x : X) → P x → Q x → R x) → (xs : List X) → AllByRecursion P xs → AllByRecursion Q xs → AllByRecursion R xs
   all_both P Q R f [] a b = tt
   all_both P Q R f (x ∷ xs) (p, a) (q, b) = (f x p q, all_both P Q R f xs a b)
 
-  pub all_always : (P : X → Type 0) → ((x : X) → P x) → (xs : List X) → All P xs
+  pub all_always : (P : X → Type 0) → ((x : X) → P x) → (xs : List X) → AllByRecursion P xs
   all_always P f [] = tt
   all_always P f (x ∷ xs) = (f x, all_always P f xs)
 
-  pub all_left : (P : X → Type 0) (xs ys : List X) → All P (xs ++ ys) → All P xs
+  pub all_left : (P : X → Type 0) (xs ys : List X) → AllByRecursion P (xs ++ ys) → AllByRecursion P xs
   all_left P [] ys a = tt
   all_left P (x ∷ xs) ys (p, a) = (p, all_left P xs ys a)
 
-  pub all_right : (P : X → Type 0) (xs ys : List X) → All P (xs ++ ys) → All P ys
+  pub all_right : (P : X → Type 0) (xs ys : List X) → AllByRecursion P (xs ++ ys) → AllByRecursion P ys
   all_right P [] ys a = a
   all_right P (x ∷ xs) ys (p, a) = all_right P xs ys a
 
   -- each of xs with each of ys
-  pub all_pairs : (P Q : X → Type 0) (R : X → X → Type 0) → ((x y : X) → P x → Q y → R x y) → (xs ys : List X) → All P xs → All Q ys → All (λ x. All (R x) ys) xs
+  pub all_pairs : (P Q : X → Type 0) (R : X → X → Type 0) → ((x y : X) → P x → Q y → R x y) → (xs ys : List X) → AllByRecursion P xs → AllByRecursion Q ys → AllByRecursion (λ x. AllByRecursion (R x) ys) xs
   all_pairs P Q R f [] ys a b = tt
   all_pairs P Q R f (x ∷ xs) ys (p, a) b = (all_both Q Q (R x) (λ y q _. f x y p q) ys b b, all_pairs P Q R f xs ys a b)
 
   -- pairs of rows of xs ++ ys
-  pub pairs_append : (R : X → X → Type 0) (xs ys : List X) → All (λ x. All (R x) xs) xs → All (λ x. All (R x) ys) xs → All (λ y. All (R y) xs) ys → All (λ y. All (R y) ys) ys → All (λ x. All (R x) (xs ++ ys)) (xs ++ ys)
+  pub pairs_append : (R : X → X → Type 0) (xs ys : List X) → AllByRecursion (λ x. AllByRecursion (R x) xs) xs → AllByRecursion (λ x. AllByRecursion (R x) ys) xs → AllByRecursion (λ y. AllByRecursion (R y) xs) ys → AllByRecursion (λ y. AllByRecursion (R y) ys) ys → AllByRecursion (λ x. AllByRecursion (R x) (xs ++ ys)) (xs ++ ys)
   pairs_append R xs ys xx xy yx yy =
-      All-append (λ x. All (R x) (xs ++ ys)) xs ys
-      (all_both (λ x. All (R x) xs) (λ x. All (R x) ys) (λ x. All (R x) (xs ++ ys)) (λ x a b. All-append (R x) xs ys a b) xs xx xy)
-      (all_both (λ x. All (R x) xs) (λ x. All (R x) ys) (λ x. All (R x) (xs ++ ys)) (λ x a b. All-append (R x) xs ys a b) ys yx yy)
+      All-append (λ x. AllByRecursion (R x) (xs ++ ys)) xs ys
+      (all_both (λ x. AllByRecursion (R x) xs) (λ x. AllByRecursion (R x) ys) (λ x. AllByRecursion (R x) (xs ++ ys)) (λ x a b. All-append (R x) xs ys a b) xs xx xy)
+      (all_both (λ x. AllByRecursion (R x) xs) (λ x. AllByRecursion (R x) ys) (λ x. AllByRecursion (R x) (xs ++ ys)) (λ x a b. All-append (R x) xs ys a b) ys yx yy)
 
 module _ {X Y : Type 0} (f : X → Y) where
   getD_map_at : (xs : List X) (i : ℕ) (d : X) → f (get_or xs i d) ≡ get_or (map f xs) i (f d)

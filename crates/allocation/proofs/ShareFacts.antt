@@ -2,7 +2,7 @@
 -- down or one more.
 use Rattle.std.proofs.Common.{◌≡◌, ℕ, suc, ◌+◌, ◌-◌, ◌*◌, ◌/◌, ◌<◌, ◌≤◌, min, leb, ◌⊎◌, List, [], ◌∷◌, length, sym, refl, ap, subst, inl, inr, mul_comm, div-lt_iff_lt-mul, add-mul, lt_of_mul-lt-mul_right, mul-add, div-mul-le_self, le_of_mul-le-mul_right, arith}
 use native.Mathlib.Nat.{lt-div-mul-add, mul-lt-mul_of_pos_left, mul-div_cancel_left}
-use Rattle.std.specs.List.{AllZip, AllByRecursion as All}
+use Rattle.std.specs.List.{AllZip, AllByRecursion}
 use Rattle.std.proofs.lemmas.Bool.{leb-true, leb-false, cond_both, cases_lt}
 use Rattle.allocation.specs.Shares.{total, parts_total, dealt, shared}
 
@@ -58,7 +58,7 @@ part_below k t s h p =
     let less : k * s < s * t = omega (arith, mul-lt-mul_of_pos_left {k = s} h p, mul_comm k s) in
     (div-lt_iff_lt-mul {k = t} {x = k * s} {y = s} (omega arith)).1 less
 
-pub none_over_dealt : (k t odd : ℕ) (ss : List ℕ) → k < t → All (λ s. 0 < s) ss → AllZip (λ s f. f ≤ s) ss (dealt k t odd ss)
+pub none_over_dealt : (k t odd : ℕ) (ss : List ℕ) → k < t → AllByRecursion (λ s. 0 < s) ss → AllZip (λ s f. f ≤ s) ss (dealt k t odd ss)
 none_over_dealt k t odd [] h a = tt
 none_over_dealt k t odd (s ∷ ss) h (p, a) = (omega (arith, part_below k t s h p), none_over_dealt k t (odd - 1) ss h a)
 
@@ -71,13 +71,13 @@ each_same : (R : ℕ → ℕ → Type 0) → ((s : ℕ) → R s s) → (ss : Lis
 each_same R r [] = tt
 each_same R r (s ∷ ss) = (r s, each_same R r ss)
 
-near_full : (ss : List ℕ) → All (λ s. 0 < s) ss → AllZip (λ s f. (f ≡ total ss * s / total ss) ⊎ (f ≡ total ss * s / total ss + 1)) ss ss
+near_full : (ss : List ℕ) → AllByRecursion (λ s. 0 < s) ss → AllZip (λ s f. (f ≡ total ss * s / total ss) ⊎ (f ≡ total ss * s / total ss + 1)) ss ss
 near_full [] a = tt
 near_full (s ∷ ss) (p, a) =
     let t : ℕ = total (s ∷ ss) in
     each_same (λ s f. (f ≡ t * s / t) ⊎ (f ≡ t * s / t + 1)) (λ s. inl (sym (mul-div_cancel_left s (omega arith)))) (s ∷ ss)
 
-fair_full : (k : ℕ) (ss : List ℕ) → All (λ s. 0 < s) ss → total ss ≤ k → Fair k ss ss
+fair_full : (k : ℕ) (ss : List ℕ) → AllByRecursion (λ s. 0 < s) ss → total ss ≤ k → Fair k ss ss
 fair_full k ss a h =
     let all : total ss ≡ min k (total ss) = omega arith in
     record {
@@ -88,7 +88,7 @@ fair_full k ss a h =
       full = λ _. refl;
     }
 
-fair_dealt : (k : ℕ) (ss : List ℕ) → All (λ s. 0 < s) ss → k < total ss → Fair k ss (dealt k (total ss) (k - parts_total k (total ss) ss) ss)
+fair_dealt : (k : ℕ) (ss : List ℕ) → AllByRecursion (λ s. 0 < s) ss → k < total ss → Fair k ss (dealt k (total ss) (k - parts_total k (total ss) ss) ss)
 fair_dealt k ss a h =
     let t : ℕ = total ss in
     let odd : ℕ = k - parts_total k t ss in
@@ -102,7 +102,7 @@ fair_dealt k ss a h =
       full = λ le. absurd (omega arith);
     }
 
-pub fair_shared : (k : ℕ) (ss : List ℕ) → All (λ s. 0 < s) ss → Fair k ss (shared k ss)
+pub fair_shared : (k : ℕ) (ss : List ℕ) → AllByRecursion (λ s. 0 < s) ss → Fair k ss (shared k ss)
 fair_shared k ss a =
     cond_both (leb (total ss) k) ss (dealt k (total ss) (k - parts_total k (total ss) ss) ss) (Fair k ss)
     (λ e. fair_full k ss a (leb-true (total ss) k e))

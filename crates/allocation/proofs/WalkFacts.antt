@@ -3,7 +3,7 @@
 use Rattle.std.proofs.Common.{◌≡◌, ℕ, zero, suc, ◌+◌, ◌-◌, ◌<◌, ◌≤◌, Bool, true, false, not, ◌⊎◌, List, [], ◌∷◌, ◌++◌, length, take, drop, ℤ, ◌≤ℤ◌, ◌<ℤ◌, sym, refl, ap, ◌∙◌, subst, inl, inr, arith}
 use borrow.Author.Differences.{ints}
 use lib.Signed.{lt_z}
-use Rattle.std.specs.List.{AllByRecursion as All}
+use Rattle.std.specs.List.{AllByRecursion}
 use Rattle.std.proofs.ByRecursion.{All-weaker, All-append}
 use Rattle.std.proofs.lemmas.List.{take_at, drop_at, drop-drop}
 use Rattle.std.proofs.lemmas.Bool.{cond_both, cond-true, cond-false, both_ways, not-true, not-false, not_from_true, not_from_false, and_parts, and_cases, and_from, and_left, and_right}
@@ -24,11 +24,11 @@ use Rattle.allocation.proofs.LevelShape.{At, Holds, Ascending, Among}
 
 -- Levels that are still to be walked. The contra's own is among them while it is pending, and below them afterwards.
 pub record Walkable (own : ℤ) (pending : Bool) (ls : List Level) : Type 0 where
-  pub holds : All Holds ls
+  pub holds : AllByRecursion Holds ls
   pub ascending : Ascending ls
-  pub none_empty : All (λ (l : Level). (l.price ≡ own) ⊎ (0 < length (l.customers ++ l.others))) ls
+  pub none_empty : AllByRecursion (λ (l : Level). (l.price ≡ own) ⊎ (0 < length (l.customers ++ l.others))) ls
   pub to_come : pending ≡ true → Among own ls
-  pub gone_by : pending ≡ false → All (λ (l : Level). own <ℤ l.price) ls
+  pub gone_by : pending ≡ false → AllByRecursion (λ (l : Level). own <ℤ l.price) ls
 
 pub none_pending : (own : ℤ) (pending : Bool) → Walkable own pending [] → pending ≡ false
 none_pending own true w = absurd (w.to_come refl)
@@ -49,7 +49,7 @@ equal_from_same a b e =
     grind (arith, ints)
 
 -- what is below all levels is below all that they hold
-below_flat : (low : ℤ) (ls : List Level) → All (λ (k : Level). low <ℤ k.price) ls → All Holds ls → All (λ (x : Response). low <ℤ x.price) (flat ls)
+below_flat : (low : ℤ) (ls : List Level) → AllByRecursion (λ (k : Level). low <ℤ k.price) ls → AllByRecursion Holds ls → AllByRecursion (λ (x : Response). low <ℤ x.price) (flat ls)
 below_flat low [] up hs = tt
 below_flat low (l ∷ ls) (below, up) (h, hs) =
     All-append Above l.customers (l.others ++ flat ls) (raised Customer l.customers h.customers_here)
@@ -58,7 +58,7 @@ below_flat low (l ∷ ls) (below, up) (h, hs) =
     Above : Response → Type 0
     Above x = low <ℤ x.price
 
-    raised : (c : Class) (xs : List Response) → All (At l.price c) xs → All (λ (x : Response). low <ℤ x.price) xs
+    raised : (c : Class) (xs : List Response) → AllByRecursion (At l.price c) xs → AllByRecursion (λ (x : Response). low <ℤ x.price) xs
     raised c xs a = All-weaker (At l.price c) (λ (x : Response). low <ℤ x.price) (λ x at. subst (λ p. low <ℤ p) (sym at.0) below) xs a
 
 -- the first level is not above the contra's own, where that is among them
@@ -66,7 +66,7 @@ lowest_first : (own : ℤ) (l : Level) (ls : List Level) → Ascending (l ∷ ls
 lowest_first own l ls up (inl here) = grind (arith, ints)
 lowest_first own l ls up (inr later) = above ls up.0 later
   where
-    above : (ks : List Level) → All (λ (k : Level). l.price <ℤ k.price) ks → Among own ks → l.price ≤ℤ own
+    above : (ks : List Level) → AllByRecursion (λ (k : Level). l.price <ℤ k.price) ks → Among own ks → l.price ≤ℤ own
     above [] a m = absurd m
     above (k ∷ ks) (a, rest) (inl here) = grind (arith, ints)
     above (k ∷ ks) (a, rest) (inr later) = above ks rest later
@@ -77,17 +77,17 @@ next_here own price true x xs e low = let under : price ≤ℤ own = low refl in
 next_here own price false x xs e low = e
 
 -- the contra's own price is the next before all that stand above it
-next_own : (own : ℤ) (xs : List Response) → All (λ (x : Response). own <ℤ x.price) xs → next_price true own xs ≡ own
+next_own : (own : ℤ) (xs : List Response) → AllByRecursion (λ (x : Response). own <ℤ x.price) xs → next_price true own xs ≡ own
 next_own own [] up = refl
 next_own own (x ∷ xs) (up, _) = cond_both (lt_z own x.price) own x.price (λ z. z ≡ own) (λ _. refl) (λ f. grind (arith, ints))
 
 next_first : (own price : ℤ) (pending : Bool) (cs os rest : List Response)
-    → All (At price Customer) cs → All (At price Other) os → All (λ (x : Response). price <ℤ x.price) rest
+    → AllByRecursion (At price Customer) cs → AllByRecursion (At price Other) os → AllByRecursion (λ (x : Response). price <ℤ x.price) rest
     → (pending ≡ true → price ≤ℤ own) → (pending ≡ false → own <ℤ price) → (price ≡ own) ⊎ (0 < length (cs ++ os))
     → next_price pending own (cs ++ (os ++ rest)) ≡ price
 next_first own price pending (x ∷ cs) os rest ((e, _), _) b up low gone some = next_here own price pending x (cs ++ (os ++ rest)) e low
 next_first own price pending [] (x ∷ os) rest a ((e, _), _) up low gone some = next_here own price pending x (os ++ rest) e low
-next_first own price true [] [] rest a b up low gone (inl e) = next_own own rest (subst (λ p. All (λ (x : Response). p <ℤ x.price) rest) e up) ∙ sym e
+next_first own price true [] [] rest a b up low gone (inl e) = next_own own rest (subst (λ p. AllByRecursion (λ (x : Response). p <ℤ x.price) rest) e up) ∙ sym e
 next_first own price false [] [] rest a b up low gone (inl e) = let over : own <ℤ price = gone refl in absurd (grind (arith, ints))
 next_first own price pending [] [] rest a b up low gone (inr some) = absurd (omega arith)
 
@@ -135,10 +135,10 @@ walkable_rest own pending l ls w = record {
           | inr later ↦ later
         ]
 
-    gone_by' : still_pending pending own l.price ≡ false → All (λ (k : Level). own <ℤ k.price) ls
+    gone_by' : still_pending pending own l.price ≡ false → AllByRecursion (λ (k : Level). own <ℤ k.price) ls
     gone_by' e = elim (and_cases pending (not (same_price l.price own)) e) [
       | inl gone ↦ (w.gone_by gone).1
-      | inr same ↦ subst (λ p. All (λ (k : Level). p <ℤ k.price) ls) (equal_from_same l.price own (not-false (same_price l.price own) same)) w.ascending.0
+      | inr same ↦ subst (λ p. AllByRecursion (λ (k : Level). p <ℤ k.price) ls) (equal_from_same l.price own (not-false (same_price l.price own) same)) w.ascending.0
     ]
 
 stands_there : (price : ℤ) (c : Class) (x : Response) → At price c x → stands_at price c x ≡ true
@@ -156,19 +156,19 @@ stands_above price c x h =
 other_stands : (price : ℤ) (x : Response) → At price Other x → stands_at price Customer x ≡ false
 other_stands price x (e, is) = and_left (same_class Customer x.class) (same_price price x.price) (ap (same_class Customer) is)
 
-leading_none : (price : ℤ) (c : Class) (xs : List Response) → All (λ (x : Response). stands_at price c x ≡ false) xs → leading price c xs ≡ 0
+leading_none : (price : ℤ) (c : Class) (xs : List Response) → AllByRecursion (λ (x : Response). stands_at price c x ≡ false) xs → leading price c xs ≡ 0
 leading_none price c [] a = refl
 leading_none price c (x ∷ xs) (e, a) = cond-false (stands_at price c x) (suc (leading price c xs)) 0 e
 
 -- a front that stands there, before those that do not
-leading_front : (price : ℤ) (c : Class) (front rest : List Response) → All (At price c) front → All (λ (x : Response). stands_at price c x ≡ false) rest → leading price c (front ++ rest) ≡ length front
+leading_front : (price : ℤ) (c : Class) (front rest : List Response) → AllByRecursion (At price c) front → AllByRecursion (λ (x : Response). stands_at price c x ≡ false) rest → leading price c (front ++ rest) ≡ length front
 leading_front price c [] rest a b = leading_none price c rest b
 leading_front price c (x ∷ front) rest (at, a) b =
     cond-true (stands_at price c x) (suc (leading price c (front ++ rest))) 0 (stands_there price c x at)
     ∙ ap suc (leading_front price c front rest a b)
 
 -- the level at the front of all responses is the first
-pub first_level : (l : Level) (ls : List Level) → All Holds (l ∷ ls) → Ascending (l ∷ ls) → front_level l.price (flat (l ∷ ls)) ≡ l
+pub first_level : (l : Level) (ls : List Level) → AllByRecursion Holds (l ∷ ls) → Ascending (l ∷ ls) → front_level l.price (flat (l ∷ ls)) ≡ l
 first_level l ls (h, hs) (up, _) =
     ap (λ n. counted_level l.price n (leading l.price Other (drop n all)) all) customers
     ∙ ap (λ xs. counted xs (leading l.price Other xs)) past
@@ -182,7 +182,7 @@ first_level l ls (h, hs) (up, _) =
     all : List Response
     all = l.customers ++ rest
 
-    above : (c : Class) → All (λ (x : Response). stands_at l.price c x ≡ false) (flat ls)
+    above : (c : Class) → AllByRecursion (λ (x : Response). stands_at l.price c x ≡ false) (flat ls)
     above c = All-weaker (λ (x : Response). l.price <ℤ x.price) (λ (x : Response). stands_at l.price c x ≡ false) (stands_above l.price c) (flat ls) (below_flat l.price ls up hs)
 
     customers : leading l.price Customer all ≡ length l.customers

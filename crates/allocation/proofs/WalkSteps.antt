@@ -5,7 +5,7 @@ use lib.ListN.{length-map}
 use lib.Signed.{lt_z}
 use Rattle.std.proofs.lemmas.List.{length-take, length-take-le, length-drop, at_drop_more, at_drop_all, drop-drop, append-nil, take-append-drop}
 use Rattle.std.proofs.lemmas.Bool.{cond_both, ltb-true, ltb-false}
-use Rattle.std.specs.List.{AllByRecursion as All}
+use Rattle.std.specs.List.{AllByRecursion}
 use Rattle.market.specs.declared.side.Side.{Side}
 use Rattle.market.specs.Prices.{showable}
 use Rattle.allocation.specs.declared.fill.FillRow.{FillRow}
@@ -27,7 +27,7 @@ use Rattle.allocation.proofs.Writes.{no_response, mid_take, mid_drop}
 use Rattle.allocation.specs.Walk.{at_end, behind_level, still_pending, walked, walk_level, walk_split, walk_on}
 
 -- the price that comes next can be turned
-pub price_showable : (pending : Bool) (own : ℤ) (xs : List Response) → showable (Some own) ≡ true → All Sized xs → showable (Some (next_price pending own xs)) ≡ true
+pub price_showable : (pending : Bool) (own : ℤ) (xs : List Response) → showable (Some own) ≡ true → AllByRecursion Sized xs → showable (Some (next_price pending own xs)) ≡ true
 price_showable pending own [] h a = h
 price_showable true own (x ∷ xs) h (s, a) = cond_both (lt_z own x.price) own x.price (λ z. showable (Some z) ≡ true) (λ _. h) (λ _. s.2)
 price_showable false own (x ∷ xs) h (s, a) = s.2

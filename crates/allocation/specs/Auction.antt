@@ -1,6 +1,6 @@
 -- An auction's values.
 use Rattle.std.specs.Prelude.{◌≡◌, ℕ, ◌<◌, ◌≤◌, Bool, cond, not, ◌&&◌, List, [], ◌∷◌, ◌++◌, map, length, take, drop, ℤ, is_some, Some, None, Ok, Err, Option, Result, MatchResult, nat_lt}
-use Rattle.std.specs.List.{AllByRecursion as All}
+use Rattle.std.specs.List.{AllByRecursion}
 use Rattle.allocation.specs.declared.auction.Auction.{Auction}
 use Rattle.allocation.specs.declared.fill.FillRow.{FillRow}
 use Rattle.allocation.specs.declared.order.PairedOrder.{PairedOrder}
@@ -55,7 +55,7 @@ LawfullyFilled a r before after =
 
 -- At each level the customers stand in ranking order, and so do the others.
 abbrev pub LevelsInRankingOrder : (Response → Response → Bool) → AuctionValues → Type 0
-LevelsInRankingOrder ahead a = All (λ (l : Level). Ordered ahead l.customers × Ordered ahead l.others) (auction_levels ahead a)
+LevelsInRankingOrder ahead a = AllByRecursion (λ (l : Level). Ordered ahead l.customers × Ordered ahead l.others) (auction_levels ahead a)
 
 -- The same auction with other responses standing.
 abbrev pub with_stood : AuctionValues → List Response → AuctionValues

@@ -1,6 +1,6 @@
 -- What a fill list comes to, in the words of those who are filled.
 use Rattle.std.specs.Prelude.{◌≡◌, ℕ, ◌+◌, ◌*◌, ◌/◌, ◌<◌, Bool, true, false, cond, not, ◌&&◌, ◌⊎◌, List, [], ◌∷◌, map, ℤ, ◌≤ℤ◌, ◌<ℤ◌, int_lt, nat_lt}
-use Rattle.std.specs.List.{AllByRecursion as All}
+use Rattle.std.specs.List.{AllByRecursion}
 use Rattle.std.specs.List.Sorted.{IsPermutation}
 use Rattle.market.specs.declared.side.Side.{Side}
 use Rattle.market.specs.Turned.{turned}
@@ -80,15 +80,15 @@ pub record FillLaws (side : Side) (size : ℕ) (floor initiating : ℤ) (stood :
   -- class and kind, and filled + left is its size. So filled is at most its size.
   pub each_once : IsPermutation (map (response_told side) stood) (map row_told (kept of_response rows))
   -- The other rows are the contra's.
-  pub others_contra : All (λ f. of_response f ≡ false → ContraRow f) rows
+  pub others_contra : AllByRecursion (λ f. of_response f ≡ false → ContraRow f) rows
   -- The filled of all rows total the order's size.
   pub whole_size : filled_in rows ≡ size
   -- Each row that trades has its turned price from the floor to the initiating price.
-  pub in_range : All (λ f. 0 < f.filled → (floor ≤ℤ turned side f.price) × (turned side f.price ≤ℤ initiating)) rows
+  pub in_range : AllByRecursion (λ f. 0 < f.filled → (floor ≤ℤ turned side f.price) × (turned side f.price ≤ℤ initiating)) rows
   -- No row trades at a price while a response at a better (lower turned) price has contracts left.
-  pub better_first : All (λ f. All (λ g. of_response g ≡ true → 0 < g.left → turned side g.price <ℤ turned side f.price → f.filled ≡ 0) rows) rows
+  pub better_first : AllByRecursion (λ f. AllByRecursion (λ g. of_response g ≡ true → 0 < g.left → turned side g.price <ℤ turned side f.price → f.filled ≡ 0) rows) rows
   -- At one price no other response and no contra trades while a customer has contracts left.
-  pub customers_first : All (λ f. All (λ g. g.class ≡ Customer → 0 < g.left → g.price ≡ f.price → f.class ≡ Other → f.filled ≡ 0) rows) rows
+  pub customers_first : AllByRecursion (λ f. AllByRecursion (λ g. g.class ≡ Customer → 0 < g.left → g.price ≡ f.price → f.class ≡ Other → f.filled ≡ 0) rows) rows
   -- In each class at each price a response's filled is K × size / T rounded down, or one more, where K is what the
   -- class's responses got there in all and T their total size.
-  pub pro_rata : All (λ f. of_response f ≡ true → ProRata (filled_in (classmates f rows)) (size_in (classmates f rows)) f) rows
+  pub pro_rata : AllByRecursion (λ f. of_response f ≡ true → ProRata (filled_in (classmates f rows)) (size_in (classmates f rows)) f) rows

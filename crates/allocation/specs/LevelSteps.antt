@@ -1,7 +1,7 @@
 -- Words for the inner steps of the code that walks the levels. No rule is stated here, and no public contract cites it.
 use Rattle.std.specs.Prelude.{◌≡◌, ℕ, suc, ◌+◌, ◌≤◌, min, Bool, true, false, cond, ◌&&◌, List, [], ◌∷◌, length, take, drop, ℤ, Some}
 use Rattle.std.specs.Int.{int_min}
-use Rattle.std.specs.List.{AllByRecursion as All}
+use Rattle.std.specs.List.{AllByRecursion}
 use Rattle.market.specs.Prices.{showable}
 use Rattle.allocation.specs.declared.levels.LevelPlan.{LevelPlan}
 use Rattle.allocation.specs.declared.response.Class.{Class}
@@ -47,4 +47,4 @@ Sized x = (1 ≤ x.size) × (x.size ≤ 100000) × (showable (Some x.price) ≡ 
 
 -- At most 64 of them, each sized.
 abbrev pub Sound : List Response → Type 0
-Sound xs = (length xs ≤ 64) × All Sized xs
+Sound xs = (length xs ≤ 64) × AllByRecursion Sized xs

@@ -1,16 +1,16 @@
 -- Memory that was taken: what holds of lists that are added and taken away, and how many lists calls want.
 use Rattle.std.proofs.Common.{◌≡◌, ℕ, zero, suc, ◌+◌, ◌<◌, ◌≤◌, Bool, true, false, cond, List, [], ◌∷◌, ◌++◌, length, get_or, take, drop, sym, refl, ap, ◌∙◌, le_of_suc-le-suc, not-suc-le-zero, add-one, arith}
 use Rattle.std.proofs.lemmas.List.{take_more}
-use Rattle.std.specs.List.{AllByRecursion as All}
+use Rattle.std.specs.List.{AllByRecursion}
 use Rattle.session.specs.declared.calls.Call.{Call}
 use Rattle.session.specs.Memory.{is_collecting, lists_for, collectings_in}
 
 module _ {X : Type 0} (P : X → Type 0) where
-  pub all_push : (xs : List X) (x : X) → All P xs → P x → All P (xs ++ x ∷ [])
+  pub all_push : (xs : List X) (x : X) → AllByRecursion P xs → P x → AllByRecursion P (xs ++ x ∷ [])
   all_push [] x h k = (k, tt)
   all_push (y ∷ ys) x h k = (h.0, all_push ys x h.1 k)
 
-  pub all_front : (xs : List X) (x : X) → All P (xs ++ x ∷ []) → All P xs × P x
+  pub all_front : (xs : List X) (x : X) → AllByRecursion P (xs ++ x ∷ []) → AllByRecursion P xs × P x
   all_front [] x h = (tt, h.0)
   all_front (y ∷ ys) x h = let rest = all_front ys x h.1 in ((h.0, rest.0), rest.1)
 

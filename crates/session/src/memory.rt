@@ -1,6 +1,6 @@
 // All the memory that a run can want, taken before its first call.
 ghost use Rattle.std.specs.Prelude.{◌≡◌, ◌+◌, ◌≤◌, true, [], is_ok, IfOk, vec_len, vec_capacity};
-ghost use Rattle.std.specs.List.{AllByRecursion as All};
+ghost use Rattle.std.specs.List.{AllByRecursion};
 ghost use Rattle.session.specs.Memory.{is_collecting, collectings_in};
 
 use crate::calls::Call;
@@ -21,9 +21,9 @@ fn is_collecting<T>(call: &Call<T>) -> bool
 
 // One list more, empty, with a place for every row.
 fn add_list(heap: Global, lists: &mut Vec<Vec<FillRow>>) -> Result<(), AllocError>
-    requires { All (λ l. (l.items ≡ []) × (129 ≤ vec_capacity l)) lists.old.items }
+    requires { AllByRecursion (λ l. (l.items ≡ []) × (129 ≤ vec_capacity l)) lists.old.items }
     ensures count { is_ok result ≡ true → vec_len lists.new ≡ vec_len lists.old + 1 }
-    ensures empty { All (λ l. (l.items ≡ []) × (129 ≤ vec_capacity l)) lists.new.items }
+    ensures empty { AllByRecursion (λ l. (l.items ≡ []) × (129 ≤ vec_capacity l)) lists.new.items }
 {
     lists.try_reserve(1)?;
     let list = Vec::with_capacity(heap, MOST_ROWS)?;
@@ -36,7 +36,7 @@ pub(crate) fn take_lists<T>(
     heap: Global,
     calls: &Vec<Call<T>>,
 ) -> Result<Vec<Vec<FillRow>>, AllocError>
-    ensures { IfOk result (λ v. (collectings_in calls.now.items ≤ vec_len v) × All (λ l. (l.items ≡ []) × (129 ≤ vec_capacity l)) v.items) }
+    ensures { IfOk result (λ v. (collectings_in calls.now.items ≤ vec_len v) × AllByRecursion (λ l. (l.items ≡ []) × (129 ≤ vec_capacity l)) v.items) }
 {
     let mut lists = Vec::new(heap);
     for i in 0..calls.len() {

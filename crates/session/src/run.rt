@@ -1,6 +1,6 @@
 // A run: a room is made of its values, and any list of calls is carried out on it.
 ghost use Rattle.std.specs.Prelude.{◌≡◌, ◌+◌, ◌≤◌, [], ◌++◌, map, vec_len, vec_capacity, MatchResult};
-ghost use Rattle.std.specs.List.{AllByRecursion as All};
+ghost use Rattle.std.specs.List.{AllByRecursion};
 ghost use Rattle.room.specs.Rooms.{claim_numbers, state_of, world_of};
 ghost use Rattle.session.specs.Memory.{collectings_in};
 ghost use Rattle.session.specs.Outcomes.{HandedBack, RunAsModelled};
@@ -33,7 +33,7 @@ where
     requires answers { vec_len answers.old + vec_len calls ≤ vec_capacity answers.old }
     requires purse { vec_len purse.old + vec_len calls ≤ vec_capacity purse.old }
     requires lists { collectings_in calls.items ≤ vec_len lists.old }
-    requires empty { All (λ l. (l.items ≡ []) × (129 ≤ vec_capacity l)) lists.old.items }
+    requires empty { AllByRecursion (λ l. (l.items ≡ []) × (129 ≤ vec_capacity l)) lists.old.items }
     ensures answers { map told answers.new.items ≡ map told answers.old.items ++ session_answers (world_of M.Market.meaning S.IntervalSource.meaning (R.Ranking.ahead room.old.ranking)) (session_of (state_of M.Market.position S.IntervalSource.position room.old) (map claim_numbers purse.old.items)) calls.items }
     ensures session { session_of (state_of M.Market.position S.IntervalSource.position room.new) (map claim_numbers purse.new.items) ≡ session_end (world_of M.Market.meaning S.IntervalSource.meaning (R.Ranking.ahead room.old.ranking)) (session_of (state_of M.Market.position S.IntervalSource.position room.old) (map claim_numbers purse.old.items)) calls.items }
 {

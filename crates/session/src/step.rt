@@ -1,6 +1,6 @@
 // One call of a session: on the room, with the purse of claims.
 ghost use Rattle.std.specs.Prelude.{◌≡◌, ◌+◌, ◌<◌, ◌≤◌, [], map, length, Some, vec_len, vec_capacity};
-ghost use Rattle.std.specs.List.{AllByRecursion as All};
+ghost use Rattle.std.specs.List.{AllByRecursion};
 ghost use Rattle.room.specs.Rooms.{claim_numbers, state_of, world_of};
 ghost use Rattle.session.specs.declared.calls.Call.TheVariants.{Open, Collect};
 ghost use Rattle.session.specs.Memory.{lists_for};
@@ -78,11 +78,11 @@ const BLANK: FillRow = FillRow {
 // The rows in one of the lists that were kept for them.
 fn in_list(lists: &mut Vec<Vec<FillRow>>, rows: &[FillRow]) -> Vec<FillRow>
     requires some { 1 ≤ vec_len lists.old }
-    requires empty { All (λ l. (l.items ≡ []) × (129 ≤ vec_capacity l)) lists.old.items }
+    requires empty { AllByRecursion (λ l. (l.items ≡ []) × (129 ≤ vec_capacity l)) lists.old.items }
     requires few { length rows.now ≤ 129 }
     ensures rows { result.items ≡ rows.now }
     ensures lists { vec_len lists.new + 1 ≡ vec_len lists.old }
-    ensures empty { All (λ l. (l.items ≡ []) × (129 ≤ vec_capacity l)) lists.new.items }
+    ensures empty { AllByRecursion (λ l. (l.items ≡ []) × (129 ≤ vec_capacity l)) lists.new.items }
 {
     let Some(mut list) = lists.pop() else {
         unreachable()
@@ -124,7 +124,7 @@ fn collect_whole<M: Market, R: Ranking, S: IntervalSource>(
 ) -> Answer<M::Fault>
     requires place { vec_len purse.old < vec_capacity purse.old }
     requires some { 1 ≤ vec_len lists.old }
-    requires empty { All (λ l. (l.items ≡ []) × (129 ≤ vec_capacity l)) lists.old.items }
+    requires empty { AllByRecursion (λ l. (l.items ≡ []) × (129 ≤ vec_capacity l)) lists.old.items }
     ensures room { state_of M.Market.position S.IntervalSource.position room.new ≡ (step (world_of M.Market.meaning S.IntervalSource.meaning (R.Ranking.ahead room.old.ranking)) (state_of M.Market.position S.IntervalSource.position room.old) (Collect (claim_numbers claim) 129)).0 }
     ensures answer { told result ≡ Some (step (world_of M.Market.meaning S.IntervalSource.meaning (R.Ranking.ahead room.old.ranking)) (state_of M.Market.position S.IntervalSource.position room.old) (Collect (claim_numbers claim) 129)).1 }
     ensures purse { map claim_numbers purse.new.items ≡ purse_left (step (world_of M.Market.meaning S.IntervalSource.meaning (R.Ranking.ahead room.old.ranking)) (state_of M.Market.position S.IntervalSource.position room.old) (Collect (claim_numbers claim) 129)).1 (claim_numbers claim) (map claim_numbers purse.old.items) }
@@ -132,7 +132,7 @@ fn collect_whole<M: Market, R: Ranking, S: IntervalSource>(
     ensures capacity { vec_capacity purse.new ≡ vec_capacity purse.old }
     ensures places { vec_len purse.new ≤ vec_len purse.old + 1 }
     ensures lists { vec_len lists.old ≤ vec_len lists.new + 1 }
-    ensures empty { All (λ l. (l.items ≡ []) × (129 ≤ vec_capacity l)) lists.new.items }
+    ensures empty { AllByRecursion (λ l. (l.items ≡ []) × (129 ≤ vec_capacity l)) lists.new.items }
 {
     let mut written = [BLANK; MOST_ROWS];
     match room.collect(claim, &mut written) {
@@ -158,7 +158,7 @@ fn collect<M: Market, R: Ranking, S: IntervalSource>(
 ) -> Answer<M::Fault>
     requires place { vec_len purse.old < vec_capacity purse.old }
     requires some { 1 ≤ vec_len lists.old }
-    requires empty { All (λ l. (l.items ≡ []) × (129 ≤ vec_capacity l)) lists.old.items }
+    requires empty { AllByRecursion (λ l. (l.items ≡ []) × (129 ≤ vec_capacity l)) lists.old.items }
     ensures room { state_of M.Market.position S.IntervalSource.position room.new ≡ (session_after (world_of M.Market.meaning S.IntervalSource.meaning (R.Ranking.ahead room.old.ranking)) (session_of (state_of M.Market.position S.IntervalSource.position room.old) (map claim_numbers purse.old.items)) (Collect numbers rows)).room }
     ensures purse { map claim_numbers purse.new.items ≡ (session_after (world_of M.Market.meaning S.IntervalSource.meaning (R.Ranking.ahead room.old.ranking)) (session_of (state_of M.Market.position S.IntervalSource.position room.old) (map claim_numbers purse.old.items)) (Collect numbers rows)).purse }
     ensures answer { told result ≡ session_answer (world_of M.Market.meaning S.IntervalSource.meaning (R.Ranking.ahead room.old.ranking)) (session_of (state_of M.Market.position S.IntervalSource.position room.old) (map claim_numbers purse.old.items)) (Collect numbers rows) }
@@ -166,7 +166,7 @@ fn collect<M: Market, R: Ranking, S: IntervalSource>(
     ensures capacity { vec_capacity purse.new ≡ vec_capacity purse.old }
     ensures places { vec_len purse.new ≤ vec_len purse.old + 1 }
     ensures lists { vec_len lists.old ≤ vec_len lists.new + 1 }
-    ensures empty { All (λ l. (l.items ≡ []) × (129 ≤ vec_capacity l)) lists.new.items }
+    ensures empty { AllByRecursion (λ l. (l.items ≡ []) × (129 ≤ vec_capacity l)) lists.new.items }
 {
     let Some(claim) = take_claim(purse, &numbers) else {
         return Answer::NoClaim;
@@ -188,7 +188,7 @@ where
     M::Tick: Drop,
     requires place { vec_len purse.old < vec_capacity purse.old }
     requires some { lists_for call ≤ vec_len lists.old }
-    requires empty { All (λ l. (l.items ≡ []) × (129 ≤ vec_capacity l)) lists.old.items }
+    requires empty { AllByRecursion (λ l. (l.items ≡ []) × (129 ≤ vec_capacity l)) lists.old.items }
     ensures room { state_of M.Market.position S.IntervalSource.position room.new ≡ (session_after (world_of M.Market.meaning S.IntervalSource.meaning (R.Ranking.ahead room.old.ranking)) (session_of (state_of M.Market.position S.IntervalSource.position room.old) (map claim_numbers purse.old.items)) call).room }
     ensures purse { map claim_numbers purse.new.items ≡ (session_after (world_of M.Market.meaning S.IntervalSource.meaning (R.Ranking.ahead room.old.ranking)) (session_of (state_of M.Market.position S.IntervalSource.position room.old) (map claim_numbers purse.old.items)) call).purse }
     ensures answer { told result ≡ session_answer (world_of M.Market.meaning S.IntervalSource.meaning (R.Ranking.ahead room.old.ranking)) (session_of (state_of M.Market.position S.IntervalSource.position room.old) (map claim_numbers purse.old.items)) call }
@@ -196,7 +196,7 @@ where
     ensures capacity { vec_capacity purse.new ≡ vec_capacity purse.old }
     ensures places { vec_len purse.new ≤ vec_len purse.old + 1 }
     ensures lists { vec_len lists.old ≤ vec_len lists.new + lists_for call }
-    ensures empty { All (λ l. (l.items ≡ []) × (129 ≤ vec_capacity l)) lists.new.items }
+    ensures empty { AllByRecursion (λ l. (l.items ≡ []) × (129 ≤ vec_capacity l)) lists.new.items }
 {
     match call {
         Call::Open(request) => open(room, purse, request),

@@ -1,6 +1,6 @@
 use Rattle.std.proofs.Common.{◌≡◌, ◌<◌, ◌≤◌, Bool, cond, [], length, get_or, vec_items, vec_len, vec_capacity, sym, refl, ap, subst, arith}
 use Rattle.std.proofs.lemmas.List.{take_all}
-use Rattle.std.specs.List.{AllByRecursion as All}
+use Rattle.std.specs.List.{AllByRecursion}
 use Rattle.session.specs.Memory.{lists_for, collectings_in}
 use Rattle.session.proofs.MemoryTaken.{collectings_more}
 use Rattle.session.proofs.memory.take_lists.Goals.{then-is-collecting+in-ok-add-list, else-is-collecting}
@@ -20,11 +20,11 @@ loop-i-preserved g c =
           let long = ap vec_len w.lists-is in
           let one = w.in-ok-add-list.ensures.count refl in
           let is_one : 1 ≡ lists_for d = ap (λ (b : Bool). cond b 1 0) w.if-is-collecting.ensures in
-          (omega arith, subst (λ l. All (λ r. (vec_items r ≡ []) × (129 ≤ vec_capacity r)) (vec_items l)) (sym w.lists-is) w.add-list.ensures.empty)
+          (omega arith, subst (λ l. AllByRecursion (λ r. (vec_items r ≡ []) × (129 ≤ vec_capacity r)) (vec_items l)) (sym w.lists-is) w.add-list.ensures.empty)
       | else-is-collecting w ↦
           let long = ap vec_len w.lists-is in
           let is_none : 0 ≡ lists_for d = ap (λ (b : Bool). cond b 1 0) w.if-is-collecting.ensures in
-          (omega arith, subst (λ l. All (λ r. (vec_items r ≡ []) × (129 ≤ vec_capacity r)) (vec_items l)) (sym w.lists-is) c.loop-i.invariant.1)
+          (omega arith, subst (λ l. AllByRecursion (λ r. (vec_items r ≡ []) × (129 ≤ vec_capacity r)) (vec_items l)) (sym w.lists-is) c.loop-i.invariant.1)
     ]
 
 pub returns : goal.returns

@@ -1,6 +1,6 @@
 use Rattle.std.proofs.Common.{◌≡◌, ◌+◌, ◌≤◌, List, [], ◌++◌, map, length, vec_items, vec_len, vec_capacity}
 use Rattle.std.specs.Vec.Iter.{into_iter_items}
-use Rattle.std.specs.List.{AllByRecursion as All}
+use Rattle.std.specs.List.{AllByRecursion}
 use Rattle.room.specs.Rooms.{claim_numbers, state_of, world_of}
 use Rattle.session.specs.Memory.{collectings_in}
 use Rattle.session.specs.Sessions.{session_answers, session_end, session_of}
@@ -20,4 +20,4 @@ invariant-loop-call g l =
     × (vec_len l.answers + length rest ≤ vec_capacity l.answers)
     × (vec_len l.purse + length rest ≤ vec_capacity l.purse)
     × (collectings_in rest ≤ vec_len l.lists)
-    × All (λ r. (vec_items r ≡ []) × (129 ≤ vec_capacity r)) (vec_items l.lists)
+    × AllByRecursion (λ r. (vec_items r ≡ []) × (129 ≤ vec_capacity r)) (vec_items l.lists)

@@ -1,5 +1,5 @@
 use Rattle.std.proofs.Common.{◌≡◌, ◌+◌, ◌≤◌, Bool, true, cond, List, [], ◌∷◌, ◌++◌, length, is_ok, vec_items, vec_len, vec_capacity, sym, ap, ◌∙◌, subst, arith}
-use Rattle.std.specs.List.{AllByRecursion as All}
+use Rattle.std.specs.List.{AllByRecursion}
 use Rattle.allocation.specs.declared.fill.FillRow.{FillRow}
 use Rattle.session.proofs.MemoryTaken.{all_front}
 use Rattle.session.proofs.step.in_list.Goals as goal
@@ -9,7 +9,7 @@ returns c =
     let list = c.in-Some.list in
     let pop = c.in-Some.ensures in
     let rows : List FillRow = c.args.rows.now in
-    let split = all_front (λ l. (vec_items l ≡ []) × (129 ≤ vec_capacity l)) (vec_items c.pop.new.self) list (subst (All (λ l. (vec_items l ≡ []) × (129 ≤ vec_capacity l))) pop.items c.requires.empty) in
+    let split = all_front (λ l. (vec_items l ≡ []) × (129 ≤ vec_capacity l)) (vec_items c.pop.new.self) list (subst (AllByRecursion (λ l. (vec_items l ≡ []) × (129 ≤ vec_capacity l))) pop.items c.requires.empty) in
     let empty = split.1.0 in
     let places = split.1.1 in
     let none = ap length empty in

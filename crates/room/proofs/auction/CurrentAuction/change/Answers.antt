@@ -16,12 +16,12 @@ told-told-requires c =
     let a = c.args.self.now in
     let x = c.args.request.now in
     let asked : SFits w64 x.price = search rules in
-    let fits : SFits w64 c.stored-price-price.result = search rules in
-    ap (λ (z : ℤ). showable (Some z)) (to_z-of_z w64 c.stored-price-price.result fits ∙ c.stored-price-price.ensures ∙ ap (stored_price (open_values a)) (to_z-of_z w64 x.price asked))
+    let fits : SFits w64 c.stored_price-price.result = search rules in
+    ap (λ (z : ℤ). showable (Some z)) (to_z-of_z w64 c.stored_price-price.result fits ∙ c.stored_price-price.ensures ∙ ap (stored_price (open_values a)) (to_z-of_z w64 x.price asked))
     ∙ stored_shown a x.member x.size x.price c.requires.terms
 
-pub overflow-add-self : goal.overflow-add-self
-overflow-add-self c =
+pub overflow_add-self : goal.overflow_add-self
+overflow_add-self c =
     let a = c.args.self.now in
     let most = total_most a.used a.few in
     let members = a.members in
@@ -34,9 +34,9 @@ put-requires c =
     let x = c.args.request.now in
     let v = auction_values a.auction in
     let asked : SFits w64 x.price = search rules in
-    let fits : SFits w64 c.stored-price-price.result = search rules in
-    let price = to_z-of_z w64 c.stored-price-price.result fits ∙ c.stored-price-price.ensures ∙ ap (stored_price (open_values a)) (to_z-of_z w64 x.price asked) in
-    let after = c.change.ensures.after ∙ ap (λ n. changed v x.member x.own n (to_z w64 (of_z w64 c.stored-price-price.result)) (a.arrivals + 1)) c.stored-size-size.ensures
+    let fits : SFits w64 c.stored_price-price.result = search rules in
+    let price = to_z-of_z w64 c.stored_price-price.result fits ∙ c.stored_price-price.ensures ∙ ap (stored_price (open_values a)) (to_z-of_z w64 x.price asked) in
+    let after = c.change.ensures.after ∙ ap (λ n. changed v x.member x.own n (to_z w64 (of_z w64 c.stored_price-price.result)) (a.arrivals + 1)) c.stored_size-size.ensures
     ∙ ap (λ z. changed v x.member x.own (stored_size (open_values a) x.size) z (a.arrivals + 1)) price ∙ changes a x c.requires in
     let last : leb (a.arrivals + 1) (a.arrivals + 1) ≡ true = grind (arith, nat_tests) in
     record {
@@ -53,11 +53,11 @@ returns c =
     let v = auction_values a.auction in
     let put = c.put.new.self in
     let asked : SFits w64 x.price = search rules in
-    let fits : SFits w64 c.stored-price-price.result = search rules in
-    let price = to_z-of_z w64 c.stored-price-price.result fits ∙ c.stored-price-price.ensures ∙ ap (stored_price (open_values a)) (to_z-of_z w64 x.price asked) in
-    let after = c.put.ensures.values ∙ c.change.ensures.after ∙ ap (λ n. changed v x.member x.own n (to_z w64 (of_z w64 c.stored-price-price.result)) (a.arrivals + 1)) c.stored-size-size.ensures
+    let fits : SFits w64 c.stored_price-price.result = search rules in
+    let price = to_z-of_z w64 c.stored_price-price.result fits ∙ c.stored_price-price.ensures ∙ ap (stored_price (open_values a)) (to_z-of_z w64 x.price asked) in
+    let after = c.put.ensures.values ∙ c.change.ensures.after ∙ ap (λ n. changed v x.member x.own n (to_z w64 (of_z w64 c.stored_price-price.result)) (a.arrivals + 1)) c.stored_size-size.ensures
     ∙ ap (λ z. changed v x.member x.own (stored_size (open_values a) x.size) z (a.arrivals + 1)) price ∙ changes a x c.requires in
     record {
       after = together put.number a.number put.deadline a.deadline (auction_values put.auction) _ put.arrivals (a.arrivals + 1) put.used (one_more x.member a.used) c.put.ensures.number c.put.ensures.deadline after c.put.ensures.arrivals c.put.ensures.used;
-      answer = c.told-told.ensures ∙ ap (λ n. terms_told (open_values a) (to_z w64 (of_z w64 c.stored-price-price.result)) n) c.stored-size-size.ensures ∙ ap (λ z. terms_told (open_values a) z (stored_size (open_values a) x.size)) price;
+      answer = c.told-told.ensures ∙ ap (λ n. terms_told (open_values a) (to_z w64 (of_z w64 c.stored_price-price.result)) n) c.stored_size-size.ensures ∙ ap (λ z. terms_told (open_values a) z (stored_size (open_values a) x.size)) price;
     }

@@ -4,16 +4,16 @@ use Rattle.room.proofs.Counting.{total_set, within_set, total_most}
 use Rattle.room.proofs.Tests.{left_true, right_true}
 use Rattle.room.proofs.auction.CurrentAuction.put.Goals as goal
 
-pub overflow-add-self : goal.overflow-add-self
-overflow-add-self c =
+pub overflow_add-self : goal.overflow_add-self
+overflow_add-self c =
     let a = c.args.self.now in
     let most = total_most a.used a.few in
     let members = a.members in
     let counted = a.counted in
     omega arith
 
-pub invariant-of-self : goal.invariant-of-self
-invariant-of-self c =
+pub invariant_of-self : goal.invariant_of-self
+invariant_of-self c =
     let a = c.args.self.now in
     let at = c.from-at.result in
     let m = c.args.member in

@@ -17,12 +17,12 @@ told-told-requires c =
     let a = c.args.self.now in
     let x = c.args.request.now in
     let asked : SFits w64 x.price = search rules in
-    let fits : SFits w64 c.stored-price-price.result = search rules in
-    ap (λ (z : ℤ). showable (Some z)) (to_z-of_z w64 c.stored-price-price.result fits ∙ c.stored-price-price.ensures ∙ ap (stored_price (open_values a)) (to_z-of_z w64 x.price asked))
+    let fits : SFits w64 c.stored_price-price.result = search rules in
+    ap (λ (z : ℤ). showable (Some z)) (to_z-of_z w64 c.stored_price-price.result fits ∙ c.stored_price-price.ensures ∙ ap (stored_price (open_values a)) (to_z-of_z w64 x.price asked))
     ∙ stored_shown a x.member x.size x.price c.requires.terms
 
-pub overflow-add-self : goal.overflow-add-self
-overflow-add-self c =
+pub overflow_add-self : goal.overflow_add-self
+overflow_add-self c =
     let a = c.args.self.now in
     let most = total_most a.used a.few in
     let members = a.members in
@@ -35,10 +35,10 @@ put-requires c =
     let x = c.args.request.now in
     let v = auction_values a.auction in
     let asked : SFits w64 x.price = search rules in
-    let fits : SFits w64 c.stored-price-price.result = search rules in
-    let price = to_z-of_z w64 c.stored-price-price.result fits ∙ c.stored-price-price.ensures ∙ ap (stored_price (open_values a)) (to_z-of_z w64 x.price asked) in
+    let fits : SFits w64 c.stored_price-price.result = search rules in
+    let price = to_z-of_z w64 c.stored_price-price.result fits ∙ c.stored_price-price.ensures ∙ ap (stored_price (open_values a)) (to_z-of_z w64 x.price asked) in
     let response : ℕ → ℤ → Response = λ n z. record { member = x.member; own = x.own; kind = x.kind; class = x.class; size = n; price = z; arrival = a.arrivals + 1 } in
-    let after = c.store.ensures.after ∙ ap (λ n. stored v (response n (to_z w64 (of_z w64 c.stored-price-price.result)))) c.stored-size-size.ensures
+    let after = c.store.ensures.after ∙ ap (λ n. stored v (response n (to_z w64 (of_z w64 c.stored_price-price.result)))) c.stored_size-size.ensures
     ∙ ap (λ z. stored v (response (stored_size (open_values a) x.size) z)) price ∙ stores a x c.requires in
     let last : leb (a.arrivals + 1) (a.arrivals + 1) ≡ true = grind (arith, nat_tests) in
     record {
@@ -55,12 +55,12 @@ returns c =
     let v = auction_values a.auction in
     let put = c.put.new.self in
     let asked : SFits w64 x.price = search rules in
-    let fits : SFits w64 c.stored-price-price.result = search rules in
-    let price = to_z-of_z w64 c.stored-price-price.result fits ∙ c.stored-price-price.ensures ∙ ap (stored_price (open_values a)) (to_z-of_z w64 x.price asked) in
+    let fits : SFits w64 c.stored_price-price.result = search rules in
+    let price = to_z-of_z w64 c.stored_price-price.result fits ∙ c.stored_price-price.ensures ∙ ap (stored_price (open_values a)) (to_z-of_z w64 x.price asked) in
     let response : ℕ → ℤ → Response = λ n z. record { member = x.member; own = x.own; kind = x.kind; class = x.class; size = n; price = z; arrival = a.arrivals + 1 } in
-    let after = c.put.ensures.values ∙ c.store.ensures.after ∙ ap (λ n. stored v (response n (to_z w64 (of_z w64 c.stored-price-price.result)))) c.stored-size-size.ensures
+    let after = c.put.ensures.values ∙ c.store.ensures.after ∙ ap (λ n. stored v (response n (to_z w64 (of_z w64 c.stored_price-price.result)))) c.stored_size-size.ensures
     ∙ ap (λ z. stored v (response (stored_size (open_values a) x.size) z)) price ∙ stores a x c.requires in
     record {
       after = together put.number a.number put.deadline a.deadline (auction_values put.auction) _ put.arrivals (a.arrivals + 1) put.used (one_more x.member a.used) c.put.ensures.number c.put.ensures.deadline after c.put.ensures.arrivals c.put.ensures.used;
-      answer = c.told-told.ensures ∙ ap (λ n. terms_told (open_values a) (to_z w64 (of_z w64 c.stored-price-price.result)) n) c.stored-size-size.ensures ∙ ap (λ z. terms_told (open_values a) z (stored_size (open_values a) x.size)) price;
+      answer = c.told-told.ensures ∙ ap (λ n. terms_told (open_values a) (to_z w64 (of_z w64 c.stored_price-price.result)) n) c.stored_size-size.ensures ∙ ap (λ z. terms_told (open_values a) z (stored_size (open_values a) x.size)) price;
     }

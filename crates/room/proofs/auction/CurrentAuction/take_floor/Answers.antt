@@ -21,15 +21,15 @@ moved a q f after fits is shown none e =
     let may = floor_moves a f q.contra can no_end in
     e ∙ ap (λ z. cond (may_move_floor v z) (with_floor v z) v) (to_z-of_z w64 f fits) ∙ ap (λ (b : Bool). cond b (with_floor v f) v) may
 
-pub invariant-of-self : goal.invariant-of-self
-invariant-of-self c =
+pub invariant_of-self : goal.invariant_of-self
+invariant_of-self c =
     let a = c.args.self.now in
     let fits : SFits w64 c.in-Some.floor = search rules in
-    (a.members, (a.few, (a.counted, (ap (λ (v : AuctionValues). all_arrived a.arrivals v.stood) (moved a.auction c.args.shown.now c.in-Some.floor (auction_values c.move-floor.new.self) fits c.in-Some.is c.requires.floor c.requires.kept c.move-floor.ensures.after) ∙ a.arrived, tt))))
+    (a.members, (a.few, (a.counted, (ap (λ (v : AuctionValues). all_arrived a.arrivals v.stood) (moved a.auction c.args.shown.now c.in-Some.floor (auction_values c.move_floor.new.self) fits c.in-Some.is c.requires.floor c.requires.kept c.move_floor.ensures.after) ∙ a.arrived, tt))))
 
 pub returns-in-Some : goal.returns-in-Some
 returns-in-Some c =
     let a = open_values c.args.self.now in
     let fits : SFits w64 c.in-Some.floor = search rules in
-    ap (λ (v : AuctionValues). record { number = a.number; deadline = a.deadline; values = v; arrivals = a.arrivals; used = a.used }) (moved c.args.self.now.auction c.args.shown.now c.in-Some.floor (auction_values c.move-floor.new.self) fits c.in-Some.is c.requires.floor c.requires.kept c.move-floor.ensures.after)
+    ap (λ (v : AuctionValues). record { number = a.number; deadline = a.deadline; values = v; arrivals = a.arrivals; used = a.used }) (moved c.args.self.now.auction c.args.shown.now c.in-Some.floor (auction_values c.move_floor.new.self) fits c.in-Some.is c.requires.floor c.requires.kept c.move_floor.ensures.after)
     ∙ sym (ap (λ (o : Option ℤ). at_floor (floor_now o a.values.floor) a) c.in-Some.is)

@@ -15,8 +15,8 @@ told-told-requires c =
     ap (λ (z : ℤ). showable (Some z)) (to_z-of_z w64 c.args.standing.now.price fits)
     ∙ standing_shown c.args.request.now.member c.args.request.now.own v.order.size v.floor v.initiating v.stood c.args.standing.now (terms_of a).floor_shown (terms_of a).initiating_shown a.responses c.requires
 
-pub invariant-of-self : goal.invariant-of-self
-invariant-of-self c =
+pub invariant_of-self : goal.invariant_of-self
+invariant_of-self c =
     let a = c.args.self.now in
     let stood = ap (λ (v : AuctionValues). v.stood) c.withdraw.ensures.after in
     (a.members, (a.few, (a.counted, (ap (all_arrived a.arrivals) stood ∙ arrived_without a.arrivals c.args.request.now.member c.args.request.now.own (auction_values a.auction).stood a.arrived, tt))))

@@ -7,8 +7,8 @@ use Rattle.room.specs.State.{RoomState}
 use Rattle.room.proofs.Listed.{second_free}
 use Rattle.room.proofs.room.Room.begin.Goals as goal
 
-pub invariant-of-self : goal.invariant-of-self
-invariant-of-self g c =
+pub invariant_of-self : goal.invariant_of-self
+invariant_of-self g c =
     let before = c.args.self.now in
     let after = c.end.new.self in
     let same : after.opened ≡ before.opened = ap (λ (z : RoomState g.M.Market.Position g.S.IntervalSource.Position). z.opened) c.end.ensures.state in

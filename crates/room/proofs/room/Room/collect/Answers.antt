@@ -19,7 +19,7 @@ unreachable-requires g c =
     let found = sym c.collectable.ensures ∙ ap waiting_result c.in-Ok.is in
     let fs : List FillRow = auction_fills (by_key (g.R.Ranking.ahead room.ranking)) (auction_values c.in-Ok.ended.auction) in
     let long = long_enough w s (claim_numbers c.args.claim) (length rows) (ended_values c.in-Ok.ended) found in
-    c.in-default.not-Ok (length fs) (c.fill.ensures.answer ∙ (filled fs rows long).0)
+    c.in_default.not-Ok (length fs) (c.fill.ensures.answer ∙ (filled fs rows long).0)
 
 pub returns : goal.returns
 returns g c =
