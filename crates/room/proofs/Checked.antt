@@ -1,7 +1,6 @@
 -- What follows of a request that passes its input checks.
-use Rattle.std.proofs.Common.{◌≡◌, ℕ, Bool, true, false, not, ltb, leb, None, Option}
+use Rattle.std.proofs.Common.{◌≡◌, ℕ, true, not, ltb, leb, None}
 use Rattle.allocation.specs.AuctionInvariant.{from_to}
-use Rattle.room.specs.declared.refusal.Refusal.{Refusal}
 use Rattle.room.specs.declared.requests.ChangeRequest.{ChangeRequest}
 use Rattle.room.specs.declared.requests.OpeningRequest.{OpeningRequest}
 use Rattle.room.specs.declared.requests.ResponseRequest.{ResponseRequest}

@@ -1,11 +1,9 @@
 -- Collecting: what is answered and written once the auction of a claim was found.
-use Rattle.std.proofs.Common.{◌≡◌, ℕ, Bool, true, false, cond, not, eqb, ltb, List, ◌++◌, length, drop, None, Ok, Err, Result, sym, refl, ap, ◌∙◌}
+use Rattle.std.proofs.Common.{◌≡◌, ℕ, Bool, false, cond, not, eqb, ltb, List, ◌++◌, length, drop, None, Ok, Err, Result, ap}
 use Rattle.allocation.specs.declared.fill.FillRow.{FillRow}
-use Rattle.allocation.specs.declared.refusal.FillRefusal.{FillRefusal}
 use Rattle.allocation.specs.Auction.{fill_answer, rows_after}
 use Rattle.allocation.specs.Refusals.{fill_refusal}
 use Rattle.room.specs.declared.answers.ClaimNumbers.{ClaimNumbers}
-use Rattle.room.specs.declared.answers.Collection.{Collection}
 use Rattle.room.specs.declared.refusal.Refusal.{Refusal}
 use Rattle.room.specs.Checks.{collect_checks}
 use Rattle.room.specs.Collecting.{collectable, collect_call, collect_rows, fill_rows, written, waiting_now}

@@ -1,5 +1,5 @@
 -- The two places for auctions that wait: an auction that is opened while none waits leaves the second place free.
-use Rattle.std.proofs.Common.{◌≡◌, ℕ, ◌≤◌, Bool, true, false, List, [], ◌∷◌, length, is_some, Some, None, Option, sym, refl, ap, ◌∙◌, arith}
+use Rattle.std.proofs.Common.{◌≡◌, ◌≤◌, Bool, true, false, List, [], ◌∷◌, length, is_some, Some, None, Option, refl, ap, ◌∙◌, arith}
 use Rattle.allocation.specs.declared.cause.EndCause.{EndCause}
 use Rattle.room.specs.declared.auction.WaitingAuction.{WaitingAuction}
 use Rattle.room.specs.Openings.{any_waits}

@@ -1,15 +1,14 @@
 -- Opening: how the refusals by the state come one after another, and that a range and an order that pass them make an
 -- auction.
-use Rattle.std.proofs.Common.{◌≡◌, ℕ, Bool, true, false, cond, not, ◌&&◌, leb, List, [], ℤ, Some, None, Ok, Err, Option, Result, sym, refl, ap, ◌∙◌, subst, arith}
+use Rattle.std.proofs.Common.{◌≡◌, Bool, true, false, leb, Some, None, Ok, Err, ap, ◌∙◌, subst}
 use lib.Signed.{lt_z, le_z}
 use Rattle.market.specs.Prices.{showable}
 use Rattle.market.specs.Range.{RangePrices, permitted}
 use Rattle.market.specs.Turned.{turned}
 use Rattle.allocation.specs.declared.order.PairedOrder.{PairedOrder}
-use Rattle.allocation.specs.AuctionInvariant.{from_to, range_ok, guarantee_ok, terms_ok}
-use Rattle.room.specs.declared.refusal.Refusal.{Refusal}
+use Rattle.allocation.specs.AuctionInvariant.{from_to, range_ok, terms_ok}
 use Rattle.room.specs.Checks.{size_ok}
-use Rattle.room.specs.Openings.{range_told, room_refusal, guarantee_refusal, opening_range, new_values, stored_order, any_waits}
+use Rattle.room.specs.Openings.{range_told, room_refusal, guarantee_refusal, opening_range, stored_order, any_waits}
 use Rattle.room.specs.Refusals.{refusal, refuse, unless, and_then}
 use Rattle.room.specs.State.{RoomState}
 use Rattle.room.specs.World.{World}

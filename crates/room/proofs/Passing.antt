@@ -1,5 +1,5 @@
 -- What a response or a change has passed when neither its input checks nor the checks by the state refuse it.
-use Rattle.std.proofs.Common.{◌≡◌, ℕ, Bool, true, false, not, leb, is_some, Some, None, Option, ap}
+use Rattle.std.proofs.Common.{◌≡◌, leb, is_some, Some, None, ap}
 use lib.Signed.{lt_z}
 use Rattle.allocation.specs.declared.response.Response.{Response}
 use Rattle.allocation.specs.Table.{own_response}
@@ -8,7 +8,7 @@ use Rattle.room.specs.declared.requests.ResponseRequest.{ResponseRequest}
 use Rattle.room.specs.Checks.{respond_checks, change_checks}
 use Rattle.room.specs.Responses.{same_side, is_plain, turned_in, above_checked, in_use_checked, used_checked, response_refusal, change_refusal}
 use Rattle.room.specs.State.{OpenAuction, used_by}
-use Rattle.room.specs.Storing.{MayStore, MayRespond, MayChange}
+use Rattle.room.specs.Storing.{MayRespond, MayChange}
 use Rattle.room.proofs.Checked.{response_priced, response_inside, change_priced, change_inside}
 use Rattle.room.proofs.Tests.{refuse_none}
 

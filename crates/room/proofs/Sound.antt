@@ -1,7 +1,7 @@
 -- What holds of an auction's values in every run, and that each call keeps it: the floor is not above the initiating
 -- price, the guarantee neither, a single stop is not below the floor, and every response lies between floor and
 -- initiating price with a size from 1 up to the order's.
-use Rattle.std.proofs.Common.{◌≡◌, ℕ, zero, suc, ◌+◌, ◌≤◌, min, Bool, true, false, cond, not, ◌&&◌, ◌||◌, eqb, ltb, leb, List, [], ◌∷◌, ◌++◌, map, ℤ, Some, None, Ok, Err, Option, sym, refl, ap, ◌∙◌, subst, arith}
+use Rattle.std.proofs.Common.{◌≡◌, ℕ, min, Bool, true, false, cond, leb, List, [], ◌∷◌, ◌++◌, ℤ, Some, None, Ok, Option, sym, refl, subst, arith}
 use borrow.Author.Differences.{ints}
 use lib.Signed.{le_z, lt_z}
 use Rattle.std.proofs.lemmas.Bool.Decides.{nat_tests}
@@ -12,7 +12,6 @@ use Rattle.market.specs.declared.side.Side.{Side}
 use Rattle.market.specs.Range.{RangePrices, permitted, range_from, range_faced, turned_quote}
 use Rattle.market.specs.Prices.{in_limits}
 use Rattle.market.specs.Turned.{turned}
-use Rattle.allocation.specs.declared.order.Guarantee.{Guarantee}
 use Rattle.allocation.specs.declared.order.GuaranteeKind.{GuaranteeKind}
 use Rattle.allocation.specs.declared.order.GuaranteeKind.TheVariants.{SingleStop, AutoMatchLimit}
 use Rattle.allocation.specs.declared.order.PairedOrder.{PairedOrder}
@@ -22,7 +21,7 @@ use Rattle.allocation.specs.AuctionInvariant.{from_to, stop_ok, stored_ok, respo
 use Rattle.allocation.specs.Table.{is_of, restored, own_changed, without_own, any_below}
 use Rattle.room.specs.Openings.{new_values}
 use Rattle.room.specs.Responses.{}
-use Rattle.room.specs.Ticks.{shown_above, above_stop, ends_for, tick_cause, floor_now}
+use Rattle.room.specs.Ticks.{above_stop, ends_for, tick_cause, floor_now}
 use Rattle.allocation.specs.declared.cause.EndCause.{EndCause}
 use Rattle.room.proofs.Tests.{both_true, left_true, right_true, or_false_left, or_false_right, none_some, ok_err, cond_ok, cond_ok_else}
 

@@ -1,18 +1,18 @@
 -- A request that has passed its checks can be carried out: the auction stores the response, changes it, and can be told of
 -- it; and a floor that brings no end can be had.
-use Rattle.std.proofs.Common.{◌≡◌, ℕ, ◌+◌, min, Bool, true, false, cond, not, ◌&&◌, leb, List, [], ◌∷◌, ◌++◌, ℤ, is_some, Some, None, Option, sym, refl, ap, ◌∙◌, subst, arith}
+use Rattle.std.proofs.Common.{◌≡◌, ℕ, ◌+◌, Bool, true, false, cond, not, ◌&&◌, leb, List, [], ◌∷◌, ◌++◌, ℤ, Some, None, Option, refl, ap, subst, arith}
 use borrow.Author.Differences.{ints}
 use lib.Signed.{le_z, lt_z}
 use Rattle.std.proofs.lemmas.Bool.Decides.{nat_tests}
-use Rattle.std.specs.Int.{int_max}
 use Rattle.market.specs.Prices.{showable}
+use Rattle.allocation.proofs.ByOwnNumber.{own_stored, own_rewritten}
 use Rattle.allocation.proofs.FillProved.{Terms, terms_hold}
 use Rattle.allocation.specs.declared.auction.Auction.{Auction}
 use Rattle.allocation.specs.declared.order.GuaranteeKind.{GuaranteeKind}
 use Rattle.allocation.specs.declared.order.GuaranteeKind.TheVariants.{SingleStop, AutoMatchLimit}
 use Rattle.allocation.specs.declared.response.Response.{Response}
-use Rattle.allocation.specs.Auction.{AuctionValues, auction_values, with_stood, with_floor, may_store, stored, may_change, changed, may_move_floor}
-use Rattle.allocation.specs.AuctionInvariant.{from_to, range_ok, guarantee_ok, stop_ok, terms_ok, stored_ok, response_ok, each, arrival_free}
+use Rattle.allocation.specs.Auction.{AuctionValues, auction_values, with_stood, may_store, stored, changed, may_move_floor}
+use Rattle.allocation.specs.AuctionInvariant.{from_to, range_ok, guarantee_ok, stop_ok, terms_ok, stored_ok, response_ok, each}
 use Rattle.allocation.specs.Table.{is_of, own_response, own_changed, any_below}
 use Rattle.room.specs.declared.auction.CurrentAuction.{CurrentAuction}
 use Rattle.room.specs.declared.requests.ChangeRequest.{ChangeRequest}
@@ -21,8 +21,7 @@ use Rattle.room.specs.Responses.{turned_in, stored_price, stored_size, as_stored
 use Rattle.room.specs.Rooms.{open_values}
 use Rattle.room.specs.State.{OpenAuction}
 use Rattle.room.specs.Storing.{MayStore, MayRespond, MayChange}
-use Rattle.room.specs.Ticks.{above_stop, above_response, tick_cause}
-use Rattle.market.specs.declared.range.TurnedQuote.{TurnedQuote}
+use Rattle.room.specs.Ticks.{above_stop, tick_cause}
 use Rattle.room.proofs.Counting.{next_is_free}
 use Rattle.room.proofs.Sound.{stored_may_stand, ends_for_none}
 use Rattle.room.proofs.Tests.{both_true, left_true, right_true}
@@ -60,8 +59,7 @@ stores a x ok =
     let stands : response_ok v.order.size v.floor v.initiating (as_stored (open_values a) x) ≡ true =
     both_true (from_to 1 16 x.member) _ ok.terms.a_member (both_true (from_to 1 4 x.own) _ ok.a_number (may_stand a x.member x.size x.price ok.terms)) in
     let free = next_is_free a.arrivals v.stood a.arrived in
-    let may : may_store v (as_stored (open_values a) x) ≡ true =
-    both_true (response_ok v.order.size v.floor v.initiating (as_stored (open_values a) x)) _ stands (both_true (arrival_free (a.arrivals + 1) v.stood) _ free (ap not ok.not_in_use)) in
+    let may : may_store v (as_stored (open_values a) x) ≡ true = own_stored a.auction (as_stored (open_values a) x) stands free ok.not_in_use in
     ap (λ (b : Bool). cond b (with_stood v (v.stood ++ as_stored (open_values a) x ∷ [])) v) may
 
 -- a change is made
@@ -71,10 +69,7 @@ pub changes : (a : CurrentAuction) (x : ChangeRequest) → MayChange (open_value
 changes a x ok =
     let v = auction_values a.auction in
     let free = next_is_free a.arrivals v.stood a.arrived in
-    let may : may_change v x.member x.own (stored_size (open_values a) x.size) (stored_price (open_values a) x.price) (a.arrivals + 1) ≡ true =
-    both_true (is_some (own_response x.member x.own v.stood)) _ ok.stands
-    (both_true (stored_ok v.order.size v.floor v.initiating (stored_size (open_values a) x.size) (stored_price (open_values a) x.price)) _ (may_stand a x.member x.size x.price ok.terms) free) in
-    ap (λ (b : Bool). cond b (with_stood v (own_changed x.member x.own (stored_size (open_values a) x.size) (stored_price (open_values a) x.price) (a.arrivals + 1) v.stood)) v) may
+    own_rewritten v x.member x.own (stored_size (open_values a) x.size) (stored_price (open_values a) x.price) (a.arrivals + 1) ok.stands (may_stand a x.member x.size x.price ok.terms) free
 
 -- a standing response's price can be turned back
 shown_at : (b : Bool) (most : ℕ) (low high : ℤ) (x y : Response) (o : Option Response) → showable (Some low) ≡ true → showable (Some high) ≡ true → response_ok most low high x ≡ true

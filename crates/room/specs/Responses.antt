@@ -8,7 +8,7 @@ use Rattle.allocation.specs.declared.cause.EndCause.TheVariants.{PlainBelowFloor
 use Rattle.allocation.specs.declared.response.Kind.{Kind}
 use Rattle.allocation.specs.declared.response.Kind.TheVariants.{Sealed, Plain}
 use Rattle.allocation.specs.declared.response.Response.{Response}
-use Rattle.allocation.specs.Auction.{AuctionValues, with_stood}
+use Rattle.allocation.specs.Auction.{with_stood}
 use Rattle.allocation.specs.Table.{own_response, own_changed, without_own}
 use Rattle.room.specs.declared.answers.StoredTerms.{StoredTerms}
 use Rattle.room.specs.declared.refusal.Refusal.{Refusal}

@@ -1,5 +1,5 @@
 -- A room's state.
-use Rattle.std.specs.Prelude.{ℕ, ◌+◌, ◌-◌, Bool, false, cond, not, List, [], ◌∷◌, ◌++◌, Some, None, Option, ◌==◌, slice_index, slice_set}
+use Rattle.std.specs.Prelude.{ℕ, ◌+◌, ◌-◌, Bool, false, cond, List, [], ◌∷◌, ◌++◌, Some, None, Option, ◌==◌, slice_index, slice_set}
 use Rattle.allocation.specs.declared.cause.EndCause.{EndCause}
 use Rattle.allocation.specs.Auction.{AuctionValues}
 

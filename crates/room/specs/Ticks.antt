@@ -5,7 +5,6 @@ use Rattle.market.specs.declared.range.TurnedQuote.{TurnedQuote}
 use Rattle.market.specs.Range.{turned_quote}
 use Rattle.allocation.specs.declared.cause.EndCause.{EndCause}
 use Rattle.allocation.specs.declared.cause.EndCause.TheVariants.{FloorAboveInitiating, FloorAboveResponse, FloorAboveStop, ContraBelowGuarantee}
-use Rattle.allocation.specs.declared.order.Guarantee.{Guarantee}
 use Rattle.allocation.specs.declared.order.GuaranteeKind.{GuaranteeKind}
 use Rattle.allocation.specs.declared.order.GuaranteeKind.TheVariants.{SingleStop, AutoMatchLimit}
 use Rattle.allocation.specs.declared.response.Response.{Response}

@@ -1,4 +1,4 @@
-use Rattle.std.proofs.Common.{◌≡◌, ◌+◌, true, leb, ℤ, Some, sym, ap, ◌∙◌, arith, w64, SFits, to_z, of_z, rules}
+use Rattle.std.proofs.Common.{◌≡◌, ◌+◌, true, leb, ℤ, Some, ap, ◌∙◌, arith, w64, SFits, to_z, of_z, rules}
 use Rattle.std.proofs.lemmas.Int.{to_z-of_z}
 use Rattle.std.proofs.lemmas.Bool.Decides.{nat_tests}
 use Rattle.market.specs.Prices.{showable}
@@ -6,7 +6,7 @@ use Rattle.allocation.specs.Auction.{AuctionValues, auction_values, changed}
 use Rattle.room.specs.Counts.{all_arrived}
 use Rattle.room.specs.Responses.{stored_price, stored_size, terms_told}
 use Rattle.room.specs.Rooms.{open_values}
-use Rattle.room.specs.State.{OpenAuction, one_more}
+use Rattle.room.specs.State.{one_more}
 use Rattle.room.proofs.Counting.{total_most, arrived_next, arrived_changed}
 use Rattle.room.proofs.Storing.{stored_shown, changes, together}
 use Rattle.room.proofs.auction.CurrentAuction.change.Goals as goal

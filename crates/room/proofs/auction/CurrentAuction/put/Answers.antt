@@ -24,4 +24,9 @@ invariant_of-self c =
     let within : at < length a.used = grind (arith, nat_tests) in
     let left = ap (λ i. leb 10000 (get_or a.used i 0)) is ∙ c.requires.left in
     let more : leb (get_or a.used at 0 + 1) 10000 ≡ true = grind (arith, nat_tests) in
-    (simp length-set a.members, (within_set 10000 a.used at (get_or a.used at 0 + 1) a.few more, (total_set a.used at within ∙ ap (λ n. n + 1) a.counted, (c.requires.arrived, tt))))
+    record {
+      members = simp length-set a.members;
+      few = within_set 10000 a.used at (get_or a.used at 0 + 1) a.few more;
+      counted = total_set a.used at within ∙ ap (λ n. n + 1) a.counted;
+      arrived = c.requires.arrived;
+    }

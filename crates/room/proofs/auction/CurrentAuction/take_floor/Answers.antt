@@ -1,4 +1,4 @@
-use Rattle.std.proofs.Common.{◌≡◌, Bool, true, cond, ℤ, Some, None, Option, sym, ap, ◌∙◌, subst, w64, SFits, to_z, of_z, rules}
+use Rattle.std.proofs.Common.{◌≡◌, Bool, true, cond, ℤ, Some, None, Option, sym, ap, ◌∙◌, w64, SFits, to_z, of_z, rules}
 use Rattle.std.proofs.lemmas.Int.{to_z-of_z}
 use Rattle.market.specs.Prices.{showable}
 use Rattle.market.specs.declared.range.TurnedQuote.{TurnedQuote}
@@ -6,7 +6,6 @@ use Rattle.allocation.specs.declared.auction.Auction.{Auction}
 use Rattle.allocation.specs.Auction.{AuctionValues, auction_values, may_move_floor, with_floor}
 use Rattle.room.specs.Counts.{all_arrived}
 use Rattle.room.specs.Rooms.{open_values}
-use Rattle.room.specs.State.{OpenAuction}
 use Rattle.room.specs.Ticks.{tick_cause, floor_now, at_floor}
 use Rattle.room.proofs.Storing.{floor_moves}
 use Rattle.room.proofs.auction.CurrentAuction.take_floor.Goals as goal
@@ -25,7 +24,7 @@ pub invariant_of-self : goal.invariant_of-self
 invariant_of-self c =
     let a = c.args.self.now in
     let fits : SFits w64 c.in-Some.floor = search rules in
-    (a.members, (a.few, (a.counted, (ap (λ (v : AuctionValues). all_arrived a.arrivals v.stood) (moved a.auction c.args.shown.now c.in-Some.floor (auction_values c.move_floor.new.self) fits c.in-Some.is c.requires.floor c.requires.kept c.move_floor.ensures.after) ∙ a.arrived, tt))))
+    record { members = a.members; few = a.few; counted = a.counted; arrived = ap (λ (v : AuctionValues). all_arrived a.arrivals v.stood) (moved a.auction c.args.shown.now c.in-Some.floor (auction_values c.move_floor.new.self) fits c.in-Some.is c.requires.floor c.requires.kept c.move_floor.ensures.after) ∙ a.arrived }
 
 pub returns-in-Some : goal.returns-in-Some
 returns-in-Some c =

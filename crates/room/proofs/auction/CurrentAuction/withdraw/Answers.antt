@@ -1,7 +1,8 @@
-use Rattle.std.proofs.Common.{◌≡◌, true, ℤ, Some, sym, ap, ◌∙◌, w64, SFits, to_z, of_z, rules}
+use Rattle.std.proofs.Common.{ℤ, Some, ap, ◌∙◌, w64, SFits, rules}
 use Rattle.std.proofs.lemmas.Int.{to_z-of_z}
 use Rattle.market.specs.Prices.{showable}
 use Rattle.allocation.specs.Auction.{AuctionValues, auction_values}
+use Rattle.allocation.proofs.ByOwnNumber.{own_removed}
 use Rattle.room.specs.Counts.{all_arrived}
 use Rattle.room.proofs.Counting.{arrived_without}
 use Rattle.room.proofs.Storing.{terms_of, standing_shown}
@@ -18,5 +19,11 @@ told-told-requires c =
 pub invariant_of-self : goal.invariant_of-self
 invariant_of-self c =
     let a = c.args.self.now in
-    let stood = ap (λ (v : AuctionValues). v.stood) c.withdraw.ensures.after in
-    (a.members, (a.few, (a.counted, (ap (all_arrived a.arrivals) stood ∙ arrived_without a.arrivals c.args.request.now.member c.args.request.now.own (auction_values a.auction).stood a.arrived, tt))))
+    let stood = ap (λ (v : AuctionValues). v.stood) (c.withdraw.ensures.after ∙ own_removed (auction_values a.auction) c.args.request.now.member c.args.request.now.own) in
+    record { members = a.members; few = a.few; counted = a.counted; arrived = ap (all_arrived a.arrivals) stood ∙ arrived_without a.arrivals c.args.request.now.member c.args.request.now.own (auction_values a.auction).stood a.arrived }
+
+pub returns-clause-after : goal.returns-clause-after
+returns-clause-after c =
+    let a = c.args.self.now in
+    let values = c.withdraw.ensures.after ∙ own_removed (auction_values a.auction) c.args.request.now.member c.args.request.now.own in
+    ap (λ (v : AuctionValues). record { number = a.number; deadline = a.deadline; values = v; arrivals = a.arrivals; used = a.used }) values

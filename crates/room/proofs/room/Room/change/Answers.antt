@@ -1,4 +1,4 @@
-use Rattle.std.proofs.Common.{◌≡◌, is_some, sym, ap, ◌∙◌}
+use Rattle.std.proofs.Common.{sym, ◌∙◌}
 use Rattle.room.specs.Rooms.{open_values}
 use Rattle.room.proofs.Checked.{change_priced, change_inside}
 use Rattle.room.proofs.Passing.{may_change}

@@ -1,10 +1,9 @@
-use Rattle.std.proofs.Common.{◌≡◌, List, ◌++◌, length, drop, Ok, Err, Result, sym, refl, ap, ◌∙◌}
+use Rattle.std.proofs.Common.{◌≡◌, List, ◌++◌, length, drop, Ok, Result, sym, ap, ◌∙◌}
 use Rattle.allocation.specs.declared.fill.FillRow.{FillRow}
 use Rattle.allocation.specs.Auction.{auction_values, auction_fills}
 use Rattle.allocation.specs.Rankings.{by_key}
 use Rattle.room.specs.declared.answers.Collection.{Collection}
 use Rattle.room.specs.declared.refusal.Refusal.{Refusal}
-use Rattle.room.specs.Collecting.{collectable, collect_rows}
 use Rattle.room.specs.Rooms.{claim_numbers, collected_answer, ended_values, state_of, waiting_result, world_of}
 use Rattle.room.specs.State.{RoomState}
 use Rattle.room.proofs.Collects.{long_enough, collected, wrote, filled}

@@ -1,4 +1,4 @@
-use Rattle.std.proofs.Common.{◌≡◌, sym, ap, ◌∙◌}
+use Rattle.std.proofs.Common.{sym, ap, ◌∙◌}
 use Rattle.market.specs.Range.{range_prices}
 use Rattle.room.specs.Rooms.{range_result, state_of, world_of}
 use Rattle.room.proofs.Checked.{opening_inside}

@@ -1,4 +1,4 @@
-use Rattle.std.proofs.Common.{◌≡◌, sym, ◌∙◌}
+use Rattle.std.proofs.Common.{sym, ◌∙◌}
 use Rattle.room.specs.Rooms.{open_values}
 use Rattle.room.proofs.Checked.{response_priced, response_inside}
 use Rattle.room.proofs.Passing.{may_respond}
