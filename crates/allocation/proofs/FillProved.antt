@@ -118,17 +118,21 @@ all_stand size floor initiating (x ∷ xs) e =
     let high = one.4 in
     ((one.0, omega (arith, one.1), grind (arith, ints), grind (arith, ints)), all_stand size floor initiating xs (both_right (response_ok size floor initiating x) (each (response_ok size floor initiating) xs) e))
 
--- the fill list of an auction keeps its laws
-pub fill_list_lawful : (ahead : Response → Response → Bool) (order : PairedOrder) (floor initiating : ℤ) (stood : List Response) → Terms order floor initiating → each (response_ok order.size floor initiating) stood ≡ true
-    → FillLaws order.side order.size floor initiating stood (fill_list ahead order initiating stood)
-fill_list_lawful ahead order floor initiating stood h e =
+-- the fill list keeps its laws where the range and the guarantee are in order
+pub fill_list_in_order : (ahead : Response → Response → Bool) (order : PairedOrder) (floor initiating : ℤ) (stood : List Response) → le_z floor initiating ≡ true → le_z order.guarantee.price initiating ≡ true
+    → stop_ok order.guarantee.kind floor order.guarantee.price ≡ true → each (response_ok order.size floor initiating) stood ≡ true → FillLaws order.side order.size floor initiating stood (fill_list ahead order initiating stood)
+fill_list_in_order ahead order floor initiating stood in_order under stop_at e =
     let t : ContraTerms = contra_terms order initiating (length stood) in
     let own : ℤ = contra_level order.guarantee.kind t in
-    let low = own_in_range order.guarantee.kind order.guarantee.price floor initiating t refl refl h.in_order h.guaranteed_at h.stop_at in
-    let under = h.guaranteed_at in
+    let low = own_in_range order.guarantee.kind order.guarantee.price floor initiating t refl refl in_order under stop_at in
     fills_lawful order.side t order.size floor stood (levels ahead own stood) (holds_levels ahead own stood) (ascending_levels ahead own stood) (among_levels ahead own stood) (shuffled_flat ahead own stood)
     (all_flat ahead (λ (x : Response). (0 < x.member) × (0 < x.size) × (floor ≤ℤ x.price) × (x.price ≤ℤ initiating)) own stood (all_stand order.size floor initiating stood e))
     (grind (arith, ints)) (grind (arith, ints))
+
+-- the fill list of an auction keeps its laws
+pub fill_list_lawful : (ahead : Response → Response → Bool) (order : PairedOrder) (floor initiating : ℤ) (stood : List Response) → Terms order floor initiating → each (response_ok order.size floor initiating) stood ≡ true
+    → FillLaws order.side order.size floor initiating stood (fill_list ahead order initiating stood)
+fill_list_lawful ahead order floor initiating stood h e = fill_list_in_order ahead order floor initiating stood h.in_order h.guaranteed_at h.stop_at e
 
 -- an accepted call's answer, rows and front, from what was written
 pub answer_is : (fs rows : List FillRow) (n : ℕ) → ltb (length rows) 129 ≡ false → n ≡ length fs → Ok n ≡ fill_answer fs rows

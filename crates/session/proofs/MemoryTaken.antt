@@ -1,9 +1,9 @@
 -- Memory that was taken: what holds of lists that are added and taken away, and how many lists calls want.
-use Rattle.std.proofs.Common.{◌≡◌, ℕ, zero, suc, ◌+◌, ◌<◌, ◌≤◌, Bool, true, false, cond, List, [], ◌∷◌, ◌++◌, length, get_or, take, drop, sym, refl, ap, ◌∙◌, le_of_suc-le-suc, not-suc-le-zero, add-one, arith}
+use Rattle.std.proofs.Common.{◌≡◌, ℕ, suc, ◌+◌, ◌<◌, ◌≤◌, List, [], ◌∷◌, ◌++◌, length, get_or, take, ap, ◌∙◌, arith}
 use Rattle.std.proofs.lemmas.List.{take_more}
 use Rattle.std.specs.List.{AllByRecursion}
 use Rattle.session.specs.declared.calls.Call.{Call}
-use Rattle.session.specs.Memory.{is_collecting, lists_for, collectings_in}
+use Rattle.session.specs.Memory.{lists_for, collectings_in}
 
 module _ {X : Type 0} (P : X → Type 0) where
   pub all_push : (xs : List X) (x : X) → AllByRecursion P xs → P x → AllByRecursion P (xs ++ x ∷ [])

@@ -1,11 +1,11 @@
 -- A session's answers are those of the run of the calls that were made; and how the loop over the calls goes on.
-use Rattle.std.proofs.Common.{◌≡◌, ℕ, Bool, true, false, cond, List, [], ◌∷◌, ◌++◌, map, Some, None, Option, sym, refl, ap, ◌∙◌, append_assoc}
+use Rattle.std.proofs.Common.{◌≡◌, Bool, true, false, cond, List, [], ◌∷◌, ◌++◌, map, Some, None, Option, sym, refl, ap, ◌∙◌, append_assoc}
 use mathlib.Core.List.{map-append}
 use Rattle.room.specs.declared.answers.ClaimNumbers.{ClaimNumbers}
 use Rattle.room.specs.State.{RoomState}
 use Rattle.room.specs.World.{World}
 use Rattle.session.specs.declared.calls.Call.{Call}
-use Rattle.session.specs.Runs.{Answer, Moment, moment, step, run_from}
+use Rattle.session.specs.Runs.{Answer, Moment, step, run_from}
 use Rattle.session.specs.Sessions.{Session, is_made, session_of, purse_after, session_after, session_answer, session_answers, calls_made, session_end, given}
 
 pub nil_right : {X : Type 0} (xs : List X) → xs ++ [] ≡ xs

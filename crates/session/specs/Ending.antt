@@ -1,6 +1,6 @@
 -- When an auction ends: within a second, not by time too soon, never without waiting to be collected, and for its causes
 -- and no others.
-use Rattle.std.specs.Prelude.{◌≡◌, ℕ, ◌+◌, ◌<◌, ◌≤◌, Bool, true, false, cond, not, ◌&&◌, List, [], ◌∷◌, length, is_some, Some, None, Option, ◌==◌, nat_le, nat_lt}
+use Rattle.std.specs.Prelude.{◌≡◌, ℕ, ◌+◌, ◌≤◌, Bool, true, false, cond, not, ◌&&◌, List, [], ◌∷◌, length, is_some, Some, None, Option, ◌==◌, nat_le, nat_lt}
 use Rattle.allocation.specs.declared.cause.EndCause.{EndCause}
 use Rattle.room.specs.State.{RoomState, numbered}
 use Rattle.room.specs.World.{World}

@@ -1,8 +1,7 @@
 -- What a member may learn from looks and from the answers to its own responses, changes and withdrawals, given where
 -- openings are accepted and where auctions end: nothing of a guarantee, and nothing of the price, the size and the class
 -- in other members' responses and changes.
-use Rattle.std.specs.Prelude.{◌≡◌, ℕ, Bool, true, false, cond, not, ◌&&◌, ◌||◌, List, [], ◌∷◌, map, pos, is_some, Some, None, Option, ◌==◌}
-use Rattle.std.specs.Option.{option_map}
+use Rattle.std.specs.Prelude.{◌≡◌, ℕ, Bool, true, false, cond, ◌&&◌, ◌||◌, List, [], ◌∷◌, map, pos, is_some, Some, None, Option, ◌==◌}
 use Rattle.allocation.specs.declared.order.Guarantee.{Guarantee}
 use Rattle.allocation.specs.declared.order.GuaranteeKind.TheVariants.{SingleStop}
 use Rattle.allocation.specs.declared.order.PairedOrder.{PairedOrder}
@@ -11,7 +10,7 @@ use Rattle.room.specs.declared.requests.ChangeRequest.{ChangeRequest}
 use Rattle.room.specs.declared.requests.OpeningRequest.{OpeningRequest}
 use Rattle.room.specs.declared.requests.ResponseRequest.{ResponseRequest}
 use Rattle.room.specs.Checks.{price_ok, size_ok}
-use Rattle.room.specs.State.{OpenAuction, is_number}
+use Rattle.room.specs.State.{OpenAuction}
 use Rattle.room.specs.World.{World}
 use Rattle.session.specs.declared.calls.Call.{Call}
 use Rattle.session.specs.declared.calls.Call.TheVariants.{Open, Respond, Change, Withdraw, Tick, Halt, Resume, Clock, Look, Collect}

@@ -1,13 +1,13 @@
 -- What a run comes to.
-use Rattle.std.specs.Prelude.{◌≡◌, ℕ, List, map, vec_items}
+use Rattle.std.specs.Prelude.{◌≡◌, List, map, vec_items}
 use Rattle.room.specs.Rooms.{claim_numbers, state_of}
-use Rattle.room.specs.State.{RoomState, new_room}
+use Rattle.room.specs.State.{new_room}
 use Rattle.room.specs.World.{World}
 use Rattle.session.specs.declared.calls.Call.{Call}
 use Rattle.session.specs.declared.handed.Finished.{Finished}
 use Rattle.session.specs.declared.handed.Handed.{Handed}
 use Rattle.session.specs.Laws.{LawsOfRun}
-use Rattle.session.specs.Runs.{Answer, Moment, run}
+use Rattle.session.specs.Runs.{Moment, run}
 use Rattle.session.specs.Sessions.{Session, session_of, session_answers, session_end, calls_made, given}
 use Rattle.session.specs.Told.{told}
 

@@ -1,5 +1,5 @@
 -- Runs: any list of calls, one after another, on a room straight from its making.
-use Rattle.std.specs.Prelude.{ℕ, Bool, true, false, List, [], ◌∷◌, Some, None, Ok, Err, Option, Result}
+use Rattle.std.specs.Prelude.{ℕ, List, [], ◌∷◌, Some, None, Ok, Err, Option, Result}
 use Rattle.allocation.specs.declared.fill.FillRow.{FillRow}
 use Rattle.room.specs.declared.answers.ClaimNumbers.{ClaimNumbers}
 use Rattle.room.specs.declared.answers.Collection.{Collection}

@@ -1,6 +1,6 @@
 -- A session: calls on a room together with a purse of claims. Openings add the claims that they are answered; a collecting
 -- hands in the claim of its numbers. Where the purse has none of those numbers, no call is made.
-use Rattle.std.specs.Prelude.{◌≡◌, ℕ, ◌+◌, ◌<◌, ◌≤◌, Bool, true, false, cond, ◌&&◌, ◌||◌, List, [], ◌∷◌, ◌++◌, map, Some, None, Option, ◌==◌}
+use Rattle.std.specs.Prelude.{Bool, true, false, cond, ◌&&◌, ◌||◌, List, [], ◌∷◌, ◌++◌, Some, None, Option, ◌==◌}
 use Rattle.room.specs.declared.answers.ClaimNumbers.{ClaimNumbers}
 use Rattle.room.specs.State.{RoomState}
 use Rattle.room.specs.World.{World}

@@ -1,5 +1,5 @@
 -- The answers in code, as values: each case its own, and none where no call was made.
-use Rattle.std.specs.Prelude.{List, Some, None, vec_items, Option}
+use Rattle.std.specs.Prelude.{Some, None, vec_items, Option}
 use Rattle.session.specs.declared.answers.Answer.{Answer as CodeAnswer}
 use Rattle.session.specs.declared.answers.Answer.TheVariants.{Opened as CodeOpened, Stored as CodeStored, Accepted as CodeAccepted, Looked as CodeLooked, Collected as CodeCollected, Refused as CodeRefused, NoClaim}
 use Rattle.session.specs.Runs.{Answer, Opened, Stored, Accepted, Looked, Collected, Refused}

@@ -1,25 +1,24 @@
 -- What each call does to the room's positions, to its numbers and to how many auctions it holds, and that no auction that
 -- is open afterwards is due.
-use Rattle.std.proofs.Common.{◌≡◌, ℕ, ◌+◌, ◌<◌, ◌≤◌, Bool, true, false, cond, not, ◌&&◌, ◌||◌, eqb, ltb, leb, List, [], ◌∷◌, ◌++◌, map, length, is_some, Some, None, Option, sym, refl, ap, ◌∙◌, subst, arith}
+use Rattle.std.proofs.Common.{◌≡◌, ℕ, ◌+◌, ◌≤◌, Bool, true, false, cond, ◌&&◌, leb, List, length, is_some, Some, None, Option, sym, refl, ap, ◌∙◌, subst, arith}
 use Rattle.std.proofs.lemmas.Bool.Decides.{nat_tests as tests}
 use Rattle.market.specs.declared.quote.Quote.{Quote}
 use Rattle.market.specs.declared.range.TurnedQuote.{TurnedQuote}
 use Rattle.market.specs.Range.{turned_quote}
-use Rattle.interval.specs.Source.{SourceMeaning, WithinLimits}
+use Rattle.interval.specs.Source.{WithinLimits}
 use Rattle.allocation.specs.declared.cause.EndCause.{EndCause}
 use Rattle.allocation.specs.declared.cause.EndCause.TheVariants.{NextAuction, PlainBelowFloor, Halt as Halted, Deadline}
 use Rattle.room.specs.Clock.{due}
-use Rattle.room.specs.Openings.{opened_with, new_auction}
-use Rattle.room.specs.State.{OpenAuction, EndedAuction, RoomState, at_time, at_position, with_halted, with_current, with_waiting, ended, closed, without_number}
+use Rattle.room.specs.State.{OpenAuction, EndedAuction, RoomState, at_position, with_current, ended, closed}
 use Rattle.room.specs.Ticks.{tick_cause, ticked_for, ticked, at_floor, floor_now}
 use Rattle.room.specs.World.{World}
 use Rattle.session.specs.declared.calls.Call.{Call}
 use Rattle.session.specs.Ending.{held_in}
-use Rattle.session.specs.History.{opened_number, told_terms, is_accepted, is_collected, tick_in, plain_below, position_then, market_at, source_at}
-use Rattle.session.specs.Runs.{Answer, Opened, Stored, Accepted, Collected, Moment}
+use Rattle.session.specs.History.{opened_number, is_accepted, is_collected, tick_in, plain_below, position_then}
+use Rattle.session.specs.Runs.{Answer, Moment}
 use Rattle.session.proofs.Ending.Lives.{Stepped, kept, expired}
-use Rattle.session.proofs.Ending.Shapes.{Did, idle, opened, stored, ticks, halts, collected, SameButResponses, Quiet}
-use Rattle.room.proofs.Tests.{true_false, none_some}
+use Rattle.session.proofs.Ending.Shapes.{Did, idle, opened, stored, ticks, halts, collected}
+use Rattle.room.proofs.Tests.{true_false}
 use Rattle.session.proofs.Ending.Waiting.{closed_length, without_length}
 
 -- an auction that ends is held as before, among those that wait

@@ -1,22 +1,21 @@
 -- What a call does to an auction that is not open when it comes: unless the call opens or collects that very auction, it
 -- stays closed, and waits or not as before.
-use Rattle.std.proofs.Common.{◌≡◌, ℕ, ◌+◌, ◌<◌, ◌≤◌, Bool, true, false, cond, not, ◌&&◌, ◌||◌, eqb, ltb, leb, List, [], ◌∷◌, ◌++◌, map, is_some, Some, None, Option, sym, refl, ap, ◌∙◌, subst, arith}
+use Rattle.std.proofs.Common.{◌≡◌, ℕ, ◌+◌, ◌≤◌, Bool, true, false, cond, ◌&&◌, eqb, List, Some, None, Option, sym, refl, ap, ◌∙◌, subst, arith}
 use Rattle.std.proofs.lemmas.Bool.Decides.{nat_tests as tests}
 use Rattle.market.specs.declared.quote.Quote.{Quote}
 use Rattle.market.specs.declared.range.TurnedQuote.{TurnedQuote}
 use Rattle.market.specs.Range.{turned_quote}
 use Rattle.allocation.specs.declared.cause.EndCause.{EndCause}
 use Rattle.allocation.specs.declared.cause.EndCause.TheVariants.{Deadline, NextAuction, PlainBelowFloor, Halt as Halted}
-use Rattle.room.specs.Openings.{opened_with}
-use Rattle.room.specs.State.{OpenAuction, EndedAuction, RoomState, at_time, at_position, with_halted, with_current, with_waiting, ended, closed, is_number, numbered, without_number}
+use Rattle.room.specs.State.{OpenAuction, EndedAuction, RoomState, at_time, at_position, with_halted, with_current, ended, is_number, numbered, without_number}
 use Rattle.room.specs.Ticks.{tick_cause, ticked_for, ticked, at_floor, floor_now}
 use Rattle.room.specs.World.{World}
 use Rattle.session.specs.declared.calls.Call.{Call}
 use Rattle.session.specs.History.{is_open, opens, collects, opened_number, is_collected, is_same, claimed, plain_below}
-use Rattle.session.specs.Runs.{Answer, Opened, Stored, Accepted, Collected, Moment}
+use Rattle.session.specs.Runs.{Answer, Opened, Moment}
 use Rattle.session.proofs.Ending.Lives.{Stepped, kept, expired}
-use Rattle.session.proofs.Ending.Shapes.{Did, idle, opened, stored, ticks, halts, collected, SameButResponses}
-use Rattle.room.proofs.Tests.{true_false, none_some}
+use Rattle.session.proofs.Ending.Shapes.{Did, idle, opened, stored, ticks, halts, collected}
+use Rattle.room.proofs.Tests.{none_some}
 use Rattle.session.proofs.Ending.Waiting.{Once, closed_other, once_closed, numbered_without_other, once_without_other}
 
 module _ {P Q : Type 0} where

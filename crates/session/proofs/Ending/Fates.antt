@@ -1,16 +1,12 @@
 -- What a call does to the auction that is open when it comes: it ends exactly if the call brings one of its causes, for
 -- the first of them, and otherwise stays open; either way what the history then tells of it is what the room holds.
-use Rattle.std.proofs.Common.{◌≡◌, ℕ, ◌+◌, ◌<◌, ◌≤◌, Bool, true, false, cond, not, ◌&&◌, ◌||◌, eqb, ltb, leb, List, [], ◌∷◌, ◌++◌, map, ℤ, is_some, Some, None, Option, sym, refl, ap, ◌∙◌, subst, arith}
-use Rattle.std.proofs.lemmas.Bool.Decides.{nat_tests as tests}
-use Rattle.market.specs.declared.quote.Quote.{Quote}
+use Rattle.std.proofs.Common.{◌≡◌, ℕ, ◌+◌, ◌≤◌, Bool, true, false, cond, not, ◌&&◌, eqb, leb, List, [], ◌∷◌, ◌++◌, is_some, Some, None, Option, sym, refl, ap, ◌∙◌, subst}
 use Rattle.market.specs.declared.range.TurnedQuote.{TurnedQuote}
-use Rattle.market.specs.declared.side.Side.{Side}
 use Rattle.market.specs.Range.{turned_quote}
 use Rattle.allocation.specs.declared.cause.EndCause.{EndCause}
 use Rattle.allocation.specs.declared.cause.EndCause.TheVariants.{NextAuction, FloorAboveInitiating, FloorAboveResponse, FloorAboveStop, PlainBelowFloor, ContraBelowGuarantee, Halt as Halted, Deadline}
 use Rattle.allocation.specs.declared.order.PairedOrder.{PairedOrder}
-use Rattle.allocation.specs.Auction.{AuctionValues, told_of}
-use Rattle.allocation.specs.FillLaws.{Told}
+use Rattle.allocation.specs.Auction.{told_of}
 use Rattle.allocation.specs.declared.fill.FillRow.{FillRow}
 use Rattle.market.specs.Range.{RangePrices}
 use Rattle.room.specs.declared.answers.ClaimNumbers.{ClaimNumbers}
@@ -18,19 +14,19 @@ use Rattle.room.specs.declared.answers.Collection.{Collection}
 use Rattle.room.specs.declared.answers.StoredTerms.{StoredTerms}
 use Rattle.room.specs.declared.requests.OpeningRequest.{OpeningRequest}
 use Rattle.room.specs.Clock.{due}
-use Rattle.room.specs.Openings.{opened_with, stored_order}
+use Rattle.room.specs.Openings.{opened_with}
 use Rattle.room.specs.State.{OpenAuction, EndedAuction, RoomState, at_time, at_position, with_halted, with_current, with_waiting, ended, closed, is_number, numbered, without_number}
 use Rattle.room.specs.Ticks.{shown_above, shown_below, above_response, above_stop, ends_for, tick_cause, ticked_for, ticked, at_floor, floor_now}
 use Rattle.room.specs.World.{World}
 use Rattle.session.specs.declared.calls.Call.{Call}
 use Rattle.session.specs.declared.calls.Call.TheVariants.{Tick, Halt, Collect}
-use Rattle.session.specs.History.{OpeningFacts, deadline_of, guarantee_of, is_open, ends_at, opens, collects, keeps_open, ticked_at, another_opened, opened_number, told_terms, is_accepted, is_collected, is_same, claimed, tick_in, is_halt, plain_below, stood_in, stood_after, stood_answered, shown_to, market_at, position_then, floor_of, is_above, is_below, stop_passed, is_plain_kind, above_one, shown_or, deadline_reached, floor_above_initiating, floor_above_response, floor_above_stop, contra_below_guarantee, plain_response_below_floor, halt_accepted, first_cause, cause_by, cause_at, opening_of}
+use Rattle.session.specs.History.{deadline_of, guarantee_of, is_open, ends_at, opens, collects, keeps_open, ticked_at, another_opened, opened_number, told_terms, is_accepted, is_collected, is_same, claimed, tick_in, is_halt, plain_below, stood_in, stood_after, stood_answered, shown_to, market_at, position_then, floor_of, is_above, is_below, stop_passed, above_one, deadline_reached, floor_above_initiating, floor_above_response, floor_above_stop, contra_below_guarantee, plain_response_below_floor, halt_accepted, first_cause, cause_by, cause_at}
 use Rattle.session.specs.Runs.{Answer, Opened, Stored, Accepted, Collected, Moment}
-use Rattle.session.proofs.Ending.Elsewhere.{Elsewhere, did_elsewhere, not_opened, not_collected}
-use Rattle.session.proofs.Ending.Lives.{Stepped, kept, expired, Tells, Alive, Over, opening_kept, ended_kept, ended_now, cause_now, collected_kept, floor_kept, floor_moved, stood_open, stood_quiet, above_is, below_is as below_shown, floor_is_now, stop_is, above_one_is}
+use Rattle.session.proofs.Ending.Elsewhere.{did_elsewhere, not_opened, not_collected}
+use Rattle.session.proofs.Ending.Lives.{Stepped, kept, expired, Tells, Alive, Over, opening_kept, ended_kept, ended_now, cause_now, collected_kept, floor_kept, floor_moved, stood_open, stood_quiet, above_is, below_is as below_shown, stop_is, above_one_is}
 use Rattle.session.proofs.Ending.Shapes.{Did, idle, opened, stored, ticks, halts, collected, SameButResponses, Quiet}
 use Rattle.room.proofs.Sound.{Sound, tick_sound}
-use Rattle.room.proofs.Tests.{true_false, none_some, and_false_left, and_false_right, both_true}
+use Rattle.room.proofs.Tests.{none_some, and_false_left, and_false_right, both_true}
 use Rattle.session.proofs.Ending.Waiting.{Once, as_ended, numbered_new, once_new, numbered_without_other}
 
 -- The first cause of eight, in the order T, A, B, C, D, F, E, H.

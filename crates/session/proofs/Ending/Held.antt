@@ -1,30 +1,29 @@
 -- When an auction ends: what holds of a room and its history at every moment of a run, and the laws that follow from it.
-use Rattle.std.proofs.Common.{◌≡◌, ℕ, ◌+◌, ◌<◌, ◌≤◌, max, Bool, true, false, cond, not, ◌&&◌, ◌||◌, eqb, ltb, leb, List, [], ◌∷◌, ◌++◌, map, length, is_some, Some, None, Ok, Err, Option, Result, sym, refl, ap, ◌∙◌, subst, arith}
+use Rattle.std.proofs.Common.{◌≡◌, ℕ, ◌+◌, ◌≤◌, Bool, true, false, cond, not, ◌&&◌, eqb, leb, List, [], ◌∷◌, is_some, Some, None, Ok, Option, Result, sym, refl, ap, ◌∙◌, arith}
 use lib.Signed.{lt_z}
 use Rattle.std.proofs.lemmas.Bool.Decides.{nat_tests as tests}
 use Rattle.market.specs.declared.refusal.RangeRefusal.{RangeRefusal}
 use Rattle.market.specs.Range.{RangePrices, permitted}
 use Rattle.market.specs.Turned.{turned}
-use Rattle.interval.specs.Source.{SourceMeaning, WithinLimits}
+use Rattle.interval.specs.Source.{WithinLimits}
 use Rattle.allocation.specs.declared.cause.EndCause.TheVariants.{NextAuction}
-use Rattle.allocation.specs.declared.order.PairedOrder.{PairedOrder}
 use Rattle.room.specs.declared.requests.OpeningRequest.{OpeningRequest}
-use Rattle.room.specs.Clock.{due, clocked}
-use Rattle.room.specs.Openings.{opened_with, new_auction, new_values}
-use Rattle.room.specs.State.{OpenAuction, EndedAuction, RoomState, new_room, closed, is_number, numbered, without_number, with_waiting}
+use Rattle.room.specs.Clock.{due}
+use Rattle.room.specs.Openings.{opened_with, new_auction}
+use Rattle.room.specs.State.{OpenAuction, EndedAuction, RoomState, new_room, numbered, without_number}
 use Rattle.room.specs.World.{World}
 use Rattle.session.specs.declared.calls.Call.{Call}
 use Rattle.session.specs.declared.calls.Call.TheVariants.{Open}
-use Rattle.session.specs.Ending.{waits, openings, collectings, held_in}
-use Rattle.session.specs.History.{OpeningFacts, is_open, ends_at, opens, collects, keeps_open, opened_number, is_accepted, is_collected, is_same, claimed, tick_in, order_in, times_ended, was_collected, stood_in, opening_of, facts_then, facts_by, floor_of, market_at, source_at, position_then, cause_at}
-use Rattle.session.specs.Runs.{Answer, Opened, Collected, Moment, given_time, input_refusal, moment, step}
+use Rattle.session.specs.Ending.{openings, collectings, held_in}
+use Rattle.session.specs.History.{OpeningFacts, is_open, ends_at, opens, collects, opened_number, is_accepted, is_collected, is_same, claimed, tick_in, order_in, times_ended, was_collected, stood_in, opening_of, facts_then, facts_by, floor_of, market_at, source_at, position_then}
+use Rattle.session.specs.Runs.{Answer, Opened, Moment, given_time, input_refusal, moment, step}
 use Rattle.session.proofs.Ending.Counted.{Counted, same, more, fewer, counted_by, position_by, stepped_held}
 use Rattle.session.proofs.Ending.Elsewhere.{Elsewhere, stepped_elsewhere, both_elsewhere, did_elsewhere, not_opened, not_collected}
 use Rattle.session.proofs.Ending.Fates.{Fate, stays, ends, fate}
-use Rattle.session.proofs.Ending.Lives.{Stepped, stepped_by, stepped_opened, stepped_position, stepped_source, stepped_number, stepped_not_due, Tells, Alive, Over, Life, unborn, alive, waiting, gone, opening_kept, ended_kept, collected_kept, collected_now, floor_kept, stood_closed, over_kept}
+use Rattle.session.proofs.Ending.Lives.{Stepped, stepped_by, stepped_opened, stepped_position, stepped_source, stepped_number, stepped_not_due, Alive, Over, Life, unborn, alive, waiting, gone, opening_kept, ended_kept, collected_kept, collected_now, floor_kept, stood_closed, over_kept}
 use Rattle.session.proofs.Ending.Shapes.{Did, idle, opened, stored, ticks, halts, collected, did}
 use Rattle.room.proofs.Sound.{new_sound, permitted_ordered}
-use Rattle.room.proofs.Tests.{true_false, none_some, and_false_left, left_true, right_true}
+use Rattle.room.proofs.Tests.{true_false, and_false_left}
 use Rattle.session.proofs.Ending.Waiting.{Once, closed_other}
 
 module _ {P T F Q : Type 0} (w : World P T F Q) (drawn : WithinLimits w.source) (number : ℕ) (p : P) (q : Q) where

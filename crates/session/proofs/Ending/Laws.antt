@@ -1,15 +1,14 @@
 -- The laws on when an auction ends, from what holds at every moment of a run.
-use Rattle.std.proofs.Common.{◌≡◌, ℕ, ◌+◌, ◌<◌, ◌≤◌, max, Bool, true, false, cond, not, ◌&&◌, ◌||◌, eqb, ltb, leb, List, [], ◌∷◌, length, is_some, Some, None, Ok, Err, Option, Result, sym, refl, ap, ◌∙◌, subst, arith}
+use Rattle.std.proofs.Common.{◌≡◌, ℕ, ◌+◌, ◌<◌, ◌≤◌, max, Bool, true, false, cond, not, ◌&&◌, eqb, ltb, leb, List, [], ◌∷◌, length, is_some, Some, None, Ok, Option, Result, sym, refl, ap, ◌∙◌, subst, arith}
 use Rattle.std.proofs.lemmas.Bool.Decides.{nat_tests as tests}
 use Rattle.interval.specs.Source.{WithinLimits}
-use Rattle.allocation.specs.declared.cause.EndCause.{EndCause}
 use Rattle.allocation.specs.declared.cause.EndCause.TheVariants.{Deadline, Halt as Halted}
 use Rattle.room.specs.declared.answers.ClaimNumbers.{ClaimNumbers}
 use Rattle.room.specs.declared.answers.Collection.{Collection}
 use Rattle.room.specs.declared.refusal.Refusal.{Refusal}
 use Rattle.room.specs.Checks.{open_checks, respond_checks, change_checks, withdraw_checks, time_checks, collect_checks}
 use Rattle.room.specs.Clock.{clocked, due, timed}
-use Rattle.room.specs.Collecting.{collectable, collect_call, collect_rows, fill_rows, waiting_now, written}
+use Rattle.room.specs.Collecting.{fill_rows, waiting_now, written}
 use Rattle.room.specs.Openings.{opening}
 use Rattle.room.specs.Refusals.{refuse, unless, outcome}
 use Rattle.room.specs.Responses.{responding, changing, withdrawing}
@@ -18,13 +17,13 @@ use Rattle.room.specs.Ticks.{ticking}
 use Rattle.room.specs.World.{World, Terms}
 use Rattle.session.specs.declared.calls.Call.{Call}
 use Rattle.session.specs.declared.calls.Call.TheVariants.{Open, Respond, Change, Withdraw, Tick, Halt, Resume, Clock, Look, Collect}
-use Rattle.session.specs.Ending.{TimedAt, waits, openings, CollectedWhenDue, told_cause, EndedWithinASecond, NotByTimeTooSoon, BusinessAfterTheClockStep, EndedNotVanished, EndedForItsCauses, AuctionsEndAsRuled}
-use Rattle.session.specs.History.{OpeningFacts, deadline_of, is_open, ends_at, ends_by_clock, opened_number, is_collected, is_same, times_ended, was_collected, opening_of, cause_at, cause_of, Throughout}
-use Rattle.session.specs.Runs.{Answer, Opened, Stored, Accepted, Collected, Refused, Moment, answered, answering, clock_stepped, given_time, input_refusal, moment, step, run_from, run}
+use Rattle.session.specs.Ending.{TimedAt, openings, CollectedWhenDue, told_cause, EndedWithinASecond, NotByTimeTooSoon, BusinessAfterTheClockStep, EndedNotVanished, EndedForItsCauses, AuctionsEndAsRuled}
+use Rattle.session.specs.History.{OpeningFacts, deadline_of, is_open, ends_at, opened_number, is_collected, times_ended, was_collected, opening_of, cause_at, cause_of, Throughout}
+use Rattle.session.specs.Runs.{Answer, Opened, Stored, Accepted, Collected, Moment, answered, answering, clock_stepped, given_time, input_refusal, moment, step, run_from}
 use Rattle.session.proofs.Ending.Counted.{Counted, same, more, fewer}
 use Rattle.session.proofs.Ending.Elsewhere.{stepped_elsewhere}
 use Rattle.session.proofs.Ending.Held.{Holds, holds_new, holds_after, clock_of, tally, earlier, fate_of, not_ending}
-use Rattle.session.proofs.Ending.Fates.{Fate, stays, ends, EndsHere, expired_ends}
+use Rattle.session.proofs.Ending.Fates.{Fate, stays, ends, expired_ends}
 use Rattle.session.proofs.Ending.Lives.{Stepped, kept, expired, clocked_time, Alive, Over, Life, unborn, alive, waiting, gone, ended_kept}
 use Rattle.session.proofs.Ending.Shapes.{Did, idle, opened, stored, ticks, halts, collected, did}
 use Rattle.room.proofs.Tests.{true_false, none_some, and_false_right, both_true, left_true, right_true}

@@ -1,12 +1,9 @@
 -- The life of an auction, as its history tells it and as the room holds it: not yet opened, open, waiting, collected. What
 -- the history tells of an auction stays as it is while the auction is not open.
-use Rattle.std.proofs.Common.{◌≡◌, ℕ, ◌+◌, ◌<◌, ◌≤◌, max, Bool, true, false, cond, not, ◌&&◌, ◌||◌, eqb, ltb, leb, List, [], ◌∷◌, ◌++◌, map, length, ℤ, is_some, Some, None, Ok, Err, Option, Result, sym, refl, ap, ◌∙◌, subst, arith}
+use Rattle.std.proofs.Common.{◌≡◌, ℕ, ◌+◌, ◌≤◌, max, Bool, true, false, cond, not, ◌&&◌, ◌||◌, eqb, leb, List, [], ◌∷◌, map, ℤ, Some, None, Option, sym, refl, ap, ◌∙◌, arith}
 use lib.Signed.{lt_z}
-use Rattle.std.proofs.lemmas.Bool.Decides.{nat_tests as tests}
 use Rattle.market.specs.declared.side.Side.{Side}
-use Rattle.market.specs.Turned.{turned}
 use Rattle.allocation.proofs.Mates.{turned_twice}
-use Rattle.allocation.specs.declared.cause.EndCause.{EndCause}
 use Rattle.allocation.specs.declared.cause.EndCause.TheVariants.{Deadline}
 use Rattle.allocation.specs.declared.order.GuaranteeKind.{GuaranteeKind}
 use Rattle.allocation.specs.declared.order.GuaranteeKind.TheVariants.{SingleStop, AutoMatchLimit}
@@ -14,17 +11,17 @@ use Rattle.allocation.specs.declared.response.Kind.{Kind}
 use Rattle.allocation.specs.declared.response.Kind.TheVariants.{Sealed, Plain}
 use Rattle.allocation.specs.declared.response.Response.{Response}
 use Rattle.allocation.specs.Auction.{AuctionValues, told_of}
-use Rattle.allocation.specs.FillLaws.{Told, response_told}
+use Rattle.allocation.specs.FillLaws.{response_told}
 use Rattle.room.specs.Clock.{due, clocked}
 use Rattle.room.specs.Openings.{stored_order}
-use Rattle.room.specs.State.{OpenAuction, EndedAuction, RoomState, at_time, ended, is_number, numbered}
+use Rattle.room.specs.State.{OpenAuction, EndedAuction, RoomState, at_time, ended, numbered}
 use Rattle.room.specs.Responses.{is_plain}
 use Rattle.room.specs.Ticks.{shown_above, shown_below, above_response, above_stop, floor_now}
 use Rattle.room.specs.World.{World}
-use Rattle.session.specs.History.{OpeningFacts, deadline_of, is_open, ends_at, opens, collects, keeps_open, ticked_at, times_ended, was_collected, stood_in, stood_answered, told_terms, opening_of, facts_then, order_in, floor_of, shown_to, cause_at, cause_of, is_above, is_below, shown_or, stop_passed, is_plain_kind, above_one}
+use Rattle.session.specs.History.{OpeningFacts, deadline_of, is_open, ends_at, opens, collects, keeps_open, times_ended, was_collected, stood_in, stood_answered, told_terms, opening_of, facts_then, order_in, floor_of, shown_to, cause_at, cause_of, is_above, is_below, shown_or, stop_passed, is_plain_kind, above_one}
 use Rattle.session.specs.Runs.{Moment, clock_stepped}
 use Rattle.room.proofs.Sound.{Sound}
-use Rattle.room.proofs.Tests.{true_false, none_some, and_false_left, and_false_right}
+use Rattle.room.proofs.Tests.{true_false, and_false_left}
 use Rattle.session.proofs.Ending.Waiting.{Once}
 
 -- What the clock step does: it moves the time, and no deadline is reached; or it ends the open auction.

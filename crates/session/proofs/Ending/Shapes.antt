@@ -1,20 +1,17 @@
 -- What a call does to a room, in few shapes: it leaves the auctions alone, opens one, stores, changes or withdraws a
 -- response, takes a tick, halts, or collects. Each with what the answer tells. And what the clock step before it does.
-use Rattle.std.proofs.Common.{◌≡◌, ℕ, ◌+◌, ◌<◌, ◌≤◌, min, max, Bool, true, false, cond, not, ◌&&◌, ◌||◌, eqb, ltb, leb, List, [], ◌∷◌, ◌++◌, map, length, ℤ, neg_ℤ, is_some, Some, None, Ok, Err, Option, Result, sym, refl, ap, ◌∙◌, subst, arith}
-use lib.Signed.{le_z, lt_z}
-use borrow.Author.Differences.{ints}
-use Rattle.std.proofs.lemmas.Bool.Decides.{nat_tests}
+use Rattle.std.proofs.Common.{◌≡◌, ℕ, ◌+◌, Bool, true, false, cond, not, ◌&&◌, eqb, leb, List, [], ◌∷◌, ◌++◌, map, length, ℤ, is_some, Some, None, Ok, Err, Option, Result, sym, refl, ap, ◌∙◌, subst}
+use lib.Signed.{lt_z}
 use Rattle.market.specs.declared.refusal.RangeRefusal.{RangeRefusal}
 use Rattle.market.specs.declared.side.Side.{Side}
-use Rattle.market.specs.declared.side.Side.TheVariants.{Buy, Sell}
 use Rattle.market.specs.Range.{RangePrices, permitted}
 use Rattle.market.specs.Turned.{turned}
-use Rattle.allocation.specs.declared.cause.EndCause.TheVariants.{PlainBelowFloor, Deadline, Halt as Halted}
+use Rattle.allocation.specs.declared.cause.EndCause.TheVariants.{PlainBelowFloor, Halt as Halted}
 use Rattle.allocation.specs.declared.order.PairedOrder.{PairedOrder}
 use Rattle.allocation.specs.declared.response.Response.{Response}
-use Rattle.allocation.specs.Auction.{AuctionValues, told_of}
-use Rattle.allocation.specs.AuctionInvariant.{from_to, response_ok, each}
-use Rattle.allocation.specs.FillLaws.{Told, response_told}
+use Rattle.allocation.specs.Auction.{told_of}
+use Rattle.allocation.specs.AuctionInvariant.{from_to, response_ok}
+use Rattle.allocation.specs.FillLaws.{response_told}
 use Rattle.allocation.specs.Table.{is_of, restored, own_changed, without_own, own_response}
 use Rattle.room.specs.declared.answers.ClaimNumbers.{ClaimNumbers}
 use Rattle.room.specs.declared.answers.StoredTerms.{StoredTerms}
@@ -23,24 +20,23 @@ use Rattle.room.specs.declared.requests.ChangeRequest.{ChangeRequest}
 use Rattle.room.specs.declared.requests.OpeningRequest.{OpeningRequest}
 use Rattle.room.specs.declared.requests.ResponseRequest.{ResponseRequest}
 use Rattle.room.specs.declared.requests.WithdrawRequest.{WithdrawRequest}
-use Rattle.room.specs.Checks.{open_checks, respond_checks, change_checks, withdraw_checks, time_checks, collect_checks, size_ok}
-use Rattle.room.specs.Clock.{due, clocked, timed}
+use Rattle.room.specs.Checks.{open_checks, respond_checks, change_checks, withdraw_checks, time_checks, collect_checks}
+use Rattle.room.specs.Clock.{clocked, timed}
 use Rattle.room.specs.Collecting.{collectable, collect_call, collect_rows, fill_rows, waiting_now}
-use Rattle.room.specs.Halts.{halt_call, resume_call, clock_call}
 use Rattle.room.specs.Openings.{opening, opening_range, opened_with, range_told, guarantee_refusal, room_refusal}
-use Rattle.room.specs.Refusals.{refusal, refuse, unless, and_then, outcome}
-use Rattle.room.specs.Responses.{open_now, side_checked, above_checked, in_use_checked, used_checked, responding_to, responding, responded, with_response, as_stored, stored_price, stored_size, terms_told, turned_in, plain_below_floor, standing_now, plain_checked, changing, changing_in, with_change, withdrawing, withdrawing_from, with_withdrawal}
-use Rattle.room.specs.State.{OpenAuction, EndedAuction, RoomState, at_time, at_position, with_halted, with_current, with_waiting, ended, is_number, numbered, without_number}
+use Rattle.room.specs.Refusals.{refuse, unless, outcome}
+use Rattle.room.specs.Responses.{side_checked, above_checked, in_use_checked, used_checked, responding_to, responding, responded, with_response, as_stored, stored_price, stored_size, terms_told, turned_in, standing_now, plain_checked, changing, changing_in, with_change, withdrawing, withdrawing_from, with_withdrawal}
+use Rattle.room.specs.State.{OpenAuction, EndedAuction, RoomState, at_position, with_halted, with_current, with_waiting, ended, is_number, numbered, without_number}
 use Rattle.room.specs.Ticks.{ticked, ticking_by, ticking}
 use Rattle.room.specs.World.{World}
 use Rattle.session.specs.declared.calls.Call.{Call}
 use Rattle.session.specs.declared.calls.Call.TheVariants.{Open, Respond, Change, Withdraw, Tick, Halt, Resume, Clock, Look, Collect}
-use Rattle.session.specs.History.{opened_number, told_terms, is_accepted, is_collected, tick_in, is_halt, claimed, ticked_at, plain_below, stood_after, response_then, restored_then, is_own, changed_then, withdrawn_then}
-use Rattle.session.specs.Runs.{Answer, Opened, Stored, Accepted, Looked, Collected, Refused, Moment, answered, answering, clock_stepped, given_time, input_refusal, step, moment}
+use Rattle.session.specs.History.{opened_number, told_terms, is_accepted, is_collected, tick_in, is_halt, claimed, plain_below, stood_after, changed_then, withdrawn_then}
+use Rattle.session.specs.Runs.{Answer, Opened, Stored, Accepted, Looked, Collected, Refused, Moment, answered, answering, clock_stepped, moment}
 use Rattle.session.proofs.Ending.Lives.{plain_is}
 use Rattle.room.proofs.Checked.{TermsInside, opening_sized, response_inside, change_inside}
 use Rattle.room.proofs.Sound.{Sound, each_push, each_changed, each_without, stood_sound, stored_may_stand}
-use Rattle.room.proofs.Tests.{refuse_none, unless_ok, and_then_ok, none_some, ok_err, not_true, both_true, left_true, right_true, true_false}
+use Rattle.room.proofs.Tests.{refuse_none, unless_ok, and_then_ok, ok_err, both_true}
 
 -- an answer that tells of no auction
 pub record Quiet {T F : Type 0} (c : Call T) (a : Answer F) : Type 0 where

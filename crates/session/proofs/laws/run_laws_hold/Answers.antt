@@ -1,5 +1,4 @@
 -- The terms are the laws of the three interfaces.
-use Rattle.room.specs.World.{World}
 use Rattle.session.proofs.RunLaws.{run_laws}
 use Rattle.session.proofs.laws.run_laws_hold.Goals as goal
 

@@ -3,7 +3,7 @@ use Rattle.std.proofs.lemmas.List.{take_all}
 use Rattle.std.specs.List.{AllByRecursion}
 use Rattle.session.specs.Memory.{lists_for, collectings_in}
 use Rattle.session.proofs.MemoryTaken.{collectings_more}
-use Rattle.session.proofs.memory.take_lists.Goals.{then-is-collecting+in-ok-add-list, else-is-collecting}
+use Rattle.session.proofs.memory.take_lists.Goals.{then-is_collecting+in_ok-add_list, else-is_collecting}
 use Rattle.session.proofs.memory.take_lists.Goals as goal
 
 pub loop-i-preserved : goal.loop-i-preserved
@@ -15,15 +15,15 @@ loop-i-preserved g c =
     let more = collectings_more items c.loop-i.i d within in
     let wants : lists_for (get_or items c.loop-i.i d) ≡ lists_for d = ap (λ x. lists_for x) (sym c.index.ensures) in
     let few = c.loop-i.invariant.0 in
-    elim c.if-is-collecting.branch [
-      | then-is-collecting+in-ok-add-list w ↦
+    elim c.if-is_collecting.branch [
+      | then-is_collecting+in_ok-add_list w ↦
           let long = ap vec_len w.lists-is in
-          let one = w.in-ok-add-list.ensures.count refl in
-          let is_one : 1 ≡ lists_for d = ap (λ (b : Bool). cond b 1 0) w.if-is-collecting.ensures in
-          (omega arith, subst (λ l. AllByRecursion (λ r. (vec_items r ≡ []) × (129 ≤ vec_capacity r)) (vec_items l)) (sym w.lists-is) w.add-list.ensures.empty)
-      | else-is-collecting w ↦
+          let one = w.in_ok-add_list.ensures.count refl in
+          let is_one : 1 ≡ lists_for d = ap (λ (b : Bool). cond b 1 0) w.if-is_collecting.ensures in
+          (omega arith, subst (λ l. AllByRecursion (λ r. (vec_items r ≡ []) × (129 ≤ vec_capacity r)) (vec_items l)) (sym w.lists-is) w.add_list.ensures.empty)
+      | else-is_collecting w ↦
           let long = ap vec_len w.lists-is in
-          let is_none : 0 ≡ lists_for d = ap (λ (b : Bool). cond b 1 0) w.if-is-collecting.ensures in
+          let is_none : 0 ≡ lists_for d = ap (λ (b : Bool). cond b 1 0) w.if-is_collecting.ensures in
           (omega arith, subst (λ l. AllByRecursion (λ r. (vec_items r ≡ []) × (129 ≤ vec_capacity r)) (vec_items l)) (sym w.lists-is) c.loop-i.invariant.1)
     ]
 

@@ -1,6 +1,5 @@
-use Rattle.std.proofs.Common.{◌≡◌, Bool, cond, map, length, get_or, Some, None, vec_items, vec_len, sym, ap, ◌∙◌, arith}
+use Rattle.std.proofs.Common.{Bool, cond, map, Some, None, vec_items, sym, ap, ◌∙◌, arith}
 use Rattle.room.specs.Rooms.{claim_numbers}
-use Rattle.session.specs.Sessions.{holds, without_claim}
 use Rattle.session.proofs.ClaimsHeld.{map_at, map_length, map_removed}
 use Rattle.session.proofs.purse.take_claim.Goals as goal
 

@@ -1,8 +1,7 @@
 -- The calls are carried out on the room at its making, with a purse of the claims that were handed in and no answer yet; and
 -- the terms of the laws are those of the three interfaces.
-use Rattle.std.proofs.Common.{◌≡◌, List, [], ◌++◌, map, vec_items, Option, sym, ap, ◌∙◌}
+use Rattle.std.proofs.Common.{List, ◌++◌, map, vec_items, Option, ap, ◌∙◌}
 use Rattle.room.specs.Rooms.{claim_numbers, state_of, world_of}
-use Rattle.room.specs.State.{new_room}
 use Rattle.room.specs.World.{World}
 use Rattle.session.specs.Outcomes.{at_first, made_of}
 use Rattle.session.specs.Runs.{Answer}
@@ -19,16 +18,16 @@ returns g c =
     let w = at h.ranking in
     let calls = vec_items h.calls in
     let first = at_first g.M.Market.position g.S.IntervalSource.position h in
-    let starts = session_is _ (map claim_numbers (vec_items c.try-reserve.new.self)) first c.new-room.ensures.state (ap (map claim_numbers) c.try-reserve.ensures.items) in
+    let starts = session_is _ (map claim_numbers (vec_items c.try_reserve.new.self)) first c.new-room.ensures.state (ap (map claim_numbers) c.try_reserve.ensures.items) in
     let ended =
     c.play.ensures.session
-    ∙ ap (λ r. session_end (at r) (session_of (state_of g.M.Market.position g.S.IntervalSource.position c.new-room.result) (map claim_numbers (vec_items c.try-reserve.new.self))) calls) c.new-room.ensures.ranking
+    ∙ ap (λ r. session_end (at r) (session_of (state_of g.M.Market.position g.S.IntervalSource.position c.new-room.result) (map claim_numbers (vec_items c.try_reserve.new.self))) calls) c.new-room.ensures.ranking
     ∙ ap (λ s. session_end w s calls) starts in
     record {
       answers =
           c.play.ensures.answers
-          ∙ ap (λ (l : List (Option (Answer g.row.M-Fault.Denot))). l ++ session_answers (at c.new-room.result.ranking) (session_of (state_of g.M.Market.position g.S.IntervalSource.position c.new-room.result) (map claim_numbers (vec_items c.try-reserve.new.self))) calls) (ap (map told) c.in-Ok-with-capacity.ensures.made.0)
-          ∙ ap (λ r. session_answers (at r) (session_of (state_of g.M.Market.position g.S.IntervalSource.position c.new-room.result) (map claim_numbers (vec_items c.try-reserve.new.self))) calls) c.new-room.ensures.ranking
+          ∙ ap (λ (l : List (Option (Answer g.row.M-Fault.Denot))). l ++ session_answers (at c.new-room.result.ranking) (session_of (state_of g.M.Market.position g.S.IntervalSource.position c.new-room.result) (map claim_numbers (vec_items c.try_reserve.new.self))) calls) (ap (map told) c.in-Ok-with_capacity.ensures.items)
+          ∙ ap (λ r. session_answers (at r) (session_of (state_of g.M.Market.position g.S.IntervalSource.position c.new-room.result) (map claim_numbers (vec_items c.try_reserve.new.self))) calls) c.new-room.ensures.ranking
           ∙ ap (λ s. session_answers w s calls) starts;
       room = ap (λ (s : Session g.M.Market.Position g.S.IntervalSource.Position). s.room) ended;
       purse = ap (λ (s : Session g.M.Market.Position g.S.IntervalSource.Position). s.purse) ended;

@@ -15,8 +15,8 @@ returns g c =
     record {
       room = c.collect.ensures.state;
       answer = sym (ap Some told.0);
-      purse = ap (map claim_numbers) c.push-reserved.ensures.items ∙ map_both claim_numbers items (c.in-Err.claim ∷ []) ∙ ap (λ x. map claim_numbers items ++ claim_numbers x ∷ []) told.1;
+      purse = ap (map claim_numbers) c.push_reserved.ensures.items ∙ map_both claim_numbers items (c.in-Err.claim ∷ []) ∙ ap (λ x. map claim_numbers items ++ claim_numbers x ∷ []) told.1;
       ranking = c.collect.ensures.ranking;
-      capacity = c.push-reserved.ensures.capacity;
-      places = let len = c.push-reserved.ensures.len in omega arith;
+      capacity = c.push_reserved.ensures.capacity;
+      places = let len = c.push_reserved.ensures.len in omega arith;
     }

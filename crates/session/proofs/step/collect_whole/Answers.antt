@@ -8,8 +8,8 @@ use Rattle.session.proofs.ClaimsHeld.{map_both}
 use Rattle.session.proofs.CollectsHeld.{gathered, refused}
 use Rattle.session.proofs.step.collect_whole.Goals as goal
 
-pub slice-bounds-in-list-end : goal.slice-bounds-in-list-end
-slice-bounds-in-list-end g c =
+pub slice_bounds-in_list-end : goal.slice_bounds-in_list-end
+slice_bounds-in_list-end g c =
     let room = c.args.room.now in
     let w = world_of g.M.Market.meaning g.S.IntervalSource.meaning (g.R.Ranking.ahead room.ranking) in
     let s = state_of g.M.Market.position g.S.IntervalSource.position room in
@@ -19,8 +19,8 @@ slice-bounds-in-list-end g c =
     let told = gathered w s (claim_numbers claim) 129 claim k _ new (sym c.in-Ok.is ∙ c.collect.ensures.answer) c.collect.ensures.rows c.collect.auto.rows in
     told.0
 
-pub in-list-list-requires : goal.in-list-list-requires
-in-list-list-requires g c =
+pub in_list-list-requires : goal.in_list-list-requires
+in_list-list-requires g c =
     let new : List FillRow = c.collect.new.rows in
     let long : length new ≡ 129 = c.collect.auto.rows in
     record {
@@ -39,7 +39,7 @@ returns-in-Ok g c =
     let new : List FillRow = c.collect.new.rows in
     let told = gathered w s (claim_numbers claim) 129 claim k _ new (sym c.in-Ok.is ∙ c.collect.ensures.answer) c.collect.ensures.rows c.collect.auto.rows in
     let all : k.count - 0 ≡ k.count = omega arith in
-    let is = told.1 ∙ ap (λ x. Collected k x) (sym (c.in-list-list.ensures.rows ∙ ap (λ m. take m new) all)) in
+    let is = told.1 ∙ ap (λ x. Collected k x) (sym (c.in_list-list.ensures.rows ∙ ap (λ m. take m new) all)) in
     let numbers = map claim_numbers (vec_items c.args.purse.now) in
     record {
       room = c.collect.ensures.state;
@@ -48,8 +48,8 @@ returns-in-Ok g c =
       ranking = c.collect.ensures.ranking;
       capacity = refl;
       places = omega arith;
-      lists = let len = c.in-list-list.ensures.lists in omega arith;
-      empty = c.in-list-list.ensures.empty;
+      lists = let len = c.in_list-list.ensures.lists in omega arith;
+      empty = c.in_list-list.ensures.empty;
     }
 
 pub returns-in-Err : goal.returns-in-Err
@@ -63,11 +63,11 @@ returns-in-Err g c =
     record {
       room = c.collect.ensures.state;
       answer = sym (ap Some told.0);
-      purse = ap (map claim_numbers) c.push-reserved.ensures.items ∙ map_both claim_numbers items (c.in-Err.claim ∷ []) ∙ ap (λ (x : Claim). map claim_numbers items ++ claim_numbers x ∷ []) told.1
+      purse = ap (map claim_numbers) c.push_reserved.ensures.items ∙ map_both claim_numbers items (c.in-Err.claim ∷ []) ∙ ap (λ (x : Claim). map claim_numbers items ++ claim_numbers x ∷ []) told.1
           ∙ sym (ap (λ (a : Answer g.row.M-Fault.Denot). purse_left a (claim_numbers claim) (map claim_numbers items)) told.0);
       ranking = c.collect.ensures.ranking;
-      capacity = c.push-reserved.ensures.capacity;
-      places = let len = c.push-reserved.ensures.len in omega arith;
+      capacity = c.push_reserved.ensures.capacity;
+      places = let len = c.push_reserved.ensures.len in omega arith;
       lists = omega arith;
       empty = c.requires.empty;
     }

@@ -1,4 +1,4 @@
-use Rattle.std.proofs.Common.{◌≡◌, ◌+◌, ◌≤◌, Bool, true, cond, List, [], ◌∷◌, ◌++◌, length, is_ok, vec_items, vec_len, vec_capacity, sym, ap, ◌∙◌, subst, arith}
+use Rattle.std.proofs.Common.{◌≡◌, ◌+◌, ◌≤◌, Bool, cond, List, [], ◌++◌, length, vec_items, vec_len, vec_capacity, ap, ◌∙◌, subst, arith}
 use Rattle.std.specs.List.{AllByRecursion}
 use Rattle.allocation.specs.declared.fill.FillRow.{FillRow}
 use Rattle.session.proofs.MemoryTaken.{all_front}
@@ -16,9 +16,9 @@ returns c =
     let ok = list.ok in
     let few = c.requires.few in
     let fits : vec_len list + length rows ≤ vec_capacity list = omega arith in
-    let fine = c.extend-from-slice.ensures.succeeds fits in
+    let fine = c.extend_from_slice.ensures.succeeds fits in
     record {
-      rows = c.extend-from-slice.ensures.items ∙ ap (λ (b : Bool). cond b (vec_items list ++ rows) (vec_items list)) fine ∙ ap (λ l. l ++ rows) empty;
+      rows = c.extend_from_slice.ensures.items ∙ ap (λ (b : Bool). cond b (vec_items list ++ rows) (vec_items list)) fine ∙ ap (λ l. l ++ rows) empty;
       lists = let len = pop.len in let some = c.requires.some in omega arith;
       empty = split.0;
     }

@@ -1,4 +1,4 @@
-use Rattle.std.proofs.Common.{◌≡◌, List, [], ◌∷◌, ◌++◌, map, Some, vec_items, Result, sym, ap, ◌∙◌, arith}
+use Rattle.std.proofs.Common.{[], ◌∷◌, ◌++◌, map, Some, vec_items, Result, sym, ap, ◌∙◌, arith}
 use Rattle.room.specs.declared.answers.ClaimNumbers.{ClaimNumbers}
 use Rattle.room.specs.declared.refusal.Refusal.{Refusal}
 use Rattle.room.specs.Rooms.{claim_answer, claim_numbers}
@@ -15,9 +15,9 @@ returns-in-Ok g c =
     let told = ap (λ (y : Result ClaimNumbers (Refusal g.row.M-Fault.Denot)). answered Opened y) is in
     record {
       room = c.open.ensures.state;
-      purse = ap (map claim_numbers) c.push-reserved.ensures.items ∙ map_both claim_numbers items (c.in-Ok.claim ∷ []) ∙ ap (λ y. map claim_numbers items ++ claim_in y) told;
+      purse = ap (map claim_numbers) c.push_reserved.ensures.items ∙ map_both claim_numbers items (c.in-Ok.claim ∷ []) ∙ ap (λ y. map claim_numbers items ++ claim_in y) told;
       answer = ap (λ x. Some (Opened x)) c.numbers-numbers.ensures ∙ ap Some told;
       ranking = c.open.ensures.ranking;
-      capacity = c.push-reserved.ensures.capacity;
-      places = let len = c.push-reserved.ensures.len in omega arith;
+      capacity = c.push_reserved.ensures.capacity;
+      places = let len = c.push_reserved.ensures.len in omega arith;
     }
