@@ -22,7 +22,7 @@ pub total_dealt : (k t odd : ℕ) (ss : List ℕ) → odd ≤ length ss → tota
 total_dealt k t odd [] h = omega arith
 total_dealt k t odd (s ∷ ss) h = omega (arith, total_dealt k t (odd - 1) ss (omega arith))
 
--- the parts-total come to k at most
+-- the parts_total come to k at most
 pub parts_below : (k t : ℕ) (ss : List ℕ) → parts_total k t ss * t ≤ k * total ss
 parts_below k t [] = omega arith
 parts_below k t (s ∷ ss) =

@@ -19,7 +19,7 @@ pub trait Market {
 
     fn shown(&self) -> Quote
         ensures answer { result ≡ meaning.shows (position self.now) }
-        ensures leaves { position self.now ≡ position self.now };
+        ensures leaves { position self.exit.now ≡ position self.entry.now };
 
     fn tick(&mut self, tick: Self::Tick) -> Result<(), Self::Fault>
         ensures answer { result ≡ meaning.answer (position self.old) tick }

@@ -31,7 +31,7 @@ impl IntervalSource for FixedInterval {
 
     ghost meaning = { fixed_meaning };
 
-    ghost in_limits = { first_of (Prim.search rules, Prim.grind (arith, Self.row.coded.inj)) };
+    ghost in_limits = { Prim.search rules };
 
     fn draw(&mut self) -> u32
         ensures answer { result ≡ self.old.length }

@@ -80,6 +80,7 @@ impl<X: Market, Y: Market> Market for BetterOf<X, Y> {
 
     ghost bounded = { Prim.search rules };
 
+    // A refused tick leaves both halves: the one that it is for by that market's own law, the other since nothing reaches it.
     ghost refused = { λ p.
         elim [
           | Left s ↦ λ h. ap (λ x. (x, p.1)) (X.Market.refused p.0 s (sym (same_ok Left (X.Market.meaning.answer p.0 s)) ∙ h))
@@ -88,7 +89,7 @@ impl<X: Market, Y: Market> Market for BetterOf<X, Y> {
 
     fn shown(&self) -> Quote
         ensures answer { result ≡ better_quote (X.Market.meaning.shows (X.Market.position self.now.left)) (Y.Market.meaning.shows (Y.Market.position self.now.right)) }
-        ensures leaves { self.now ≡ self.now }
+        ensures leaves { self.exit.now ≡ self.entry.now }
     {
         let left = self.left.shown();
         let right = self.right.shown();

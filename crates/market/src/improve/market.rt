@@ -59,13 +59,13 @@ impl<M: Market> Market for Improve<M> {
 
     ghost meaning = { improve_meaning M.Market.meaning };
 
-    ghost bounded = { first_of (Prim.search rules, Prim.grind (arith, Self.row.coded.inj)) };
+    ghost bounded = { Prim.search rules };
 
-    ghost refused = { first_of (Prim.search rules, Prim.grind (arith, Self.row.coded.inj)) };
+    ghost refused = { Prim.search rules };
 
     fn shown(&self) -> Quote
         ensures answer { result ≡ improved_quote self.now.step (M.Market.meaning.shows (M.Market.position self.now.inner)) }
-        ensures leaves { self.now ≡ self.now }
+        ensures leaves { self.exit.now ≡ self.entry.now }
     {
         let inner = self.inner.shown();
         Quote {

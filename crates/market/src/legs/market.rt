@@ -115,11 +115,11 @@ impl Market for Legs {
       wider 36000000 50000000 (legs_sum Offer (legs_of s)) (omega arith) (legs_sum_within Offer s),
     ) };
 
-    ghost refused = { first_of (Prim.search rules, Prim.grind (arith, Self.row.coded.inj)) };
+    ghost refused = { Prim.search rules };
 
     fn shown(&self) -> Quote
         ensures answer { result ≡ legs_quote (legs_of self.now) }
-        ensures leaves { self.now ≡ self.now }
+        ensures leaves { self.exit.now ≡ self.entry.now }
     {
         Quote {
             bid: self.sum(QuoteSide::Bid),

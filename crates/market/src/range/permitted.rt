@@ -1,6 +1,5 @@
 // The range that a market permits an order.
 ghost use Rattle.std.specs.Prelude.{◌≡◌, true, Some};
-ghost use Rattle.std.specs.Int.Signed.{le_z};
 ghost use Rattle.std.specs.Option.{option_map};
 ghost use Rattle.market.specs.Meaning.{Bounded};
 ghost use Rattle.market.specs.Prices.{in_limits, showable};

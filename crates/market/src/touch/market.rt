@@ -78,13 +78,13 @@ impl Market for Touch {
 
     ghost meaning = { touch_meaning };
 
-    ghost bounded = { first_of (Prim.search rules, Prim.grind (arith, Self.row.coded.inj)) };
+    ghost bounded = { Prim.search rules };
 
-    ghost refused = { first_of (Prim.search rules, Prim.grind (arith, Self.row.coded.inj)) };
+    ghost refused = { Prim.search rules };
 
     fn shown(&self) -> Quote
         ensures answer { result ≡ touch_quote self.now }
-        ensures leaves { self.now ≡ self.now }
+        ensures leaves { self.exit.now ≡ self.entry.now }
     {
         Quote {
             bid: self.bid,

@@ -1,5 +1,5 @@
 -- Each part computes; calls that are alike are so one by one.
-use Rattle.std.proofs.Common.{◌≡◌, ℕ, true, refl, rules}
+use Rattle.std.proofs.Common.{◌≡◌, ℕ, true, refl}
 use Rattle.session.specs.Learning.{Alike, hidden_from, hidden_in_limits}
 use Rattle.worked_runs.specs.Script.{CubeCall}
 use Rattle.worked_runs.proofs.learning_holds.Goals as goal
