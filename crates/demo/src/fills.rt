@@ -68,33 +68,23 @@ impl<R: Called> Task<'_, R> {
     }
 
     // The levels and the table of a fill list.
-    fn show_fills(
-        &self,
-        rt: &HostRuntime,
-        range: PermittedRange,
-        rows: &[FillRow],
-    ) -> io::Result<()> {
+    fn show_fills(&self, rt: &HostRuntime, auction: &Auction, rows: &[FillRow]) -> io::Result<()> {
         let shared = Shared {
             rows,
             kind: self.kind,
-            initiating: range.initiating_price(),
+            initiating: self.side.turn(auction.initiating()),
             ranked: R::NAME,
         };
         shared.show_levels(rt, self.size)?;
         show_table(rt, rows, self.size)
     }
 
-    fn share_out(
-        &self,
-        rt: &HostRuntime,
-        range: PermittedRange,
-        auction: &Auction,
-    ) -> io::Result<()> {
+    fn share_out(&self, rt: &HostRuntime, auction: &Auction) -> io::Result<()> {
         let guaranteed = auction.guaranteed();
         println!(rt; "  G, the share that the contra is guaranteed: {guaranteed}")?;
         let mut rows = [FillRow::BLANK; LEAST_ROWS];
         match auction.fill(&self.ranking, &mut rows) {
-            Ok(count) => self.show_fills(rt, range, rows.get(..count).unwrap_or(&[])),
+            Ok(count) => self.show_fills(rt, auction, rows.get(..count).unwrap_or(&[])),
             Err(refusal) => println!(rt; "    refused: {}", refusal.number()),
         }
     }
@@ -108,7 +98,7 @@ impl<R: Called> Task<'_, R> {
             return println!(rt; "    a response may not stand");
         }
         show_standing(rt, self.side, self.told)?;
-        self.share_out(rt, range, &auction)
+        self.share_out(rt, &auction)
     }
 
     fn work<M: Market>(&self, rt: &HostRuntime, market: &M) -> io::Result<()> {

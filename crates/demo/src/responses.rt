@@ -47,7 +47,8 @@ pub fn other(member: u8, size: u32, price: i64) -> Told {
     }
 }
 
-// Whether all may stand; each is stored that may.
+// Whether all may stand; each is stored that may. The examples store theirs alike: the programs share only the layers,
+// and a layer holds nothing that only programs call.
 pub fn store_all(auction: &mut Auction, side: Side, told: &[Told]) -> bool {
     (1..=u32::MAX)
         .zip(told)

@@ -93,30 +93,27 @@ impl Narration<'_> {
 
     // Each market of the pile, from what it is made of to the CUBE market itself.
     fn show_pile(&self) -> io::Result<()> {
-        let rt = self.rt;
         let book = self.market.left();
         let legs = self.market.right();
         self.show_legs()?;
-        show(rt, "book", book.inner().shown())?;
-        show(rt, "legs improved", legs.shown())?;
-        println!(rt; "    by their smallest ratio, {}", legs.step())?;
-        show(rt, "book improved", book.shown())?;
-        println!(rt; "    by {}", book.step())?;
+        show(self.rt, "book", book.inner().shown())?;
+        show(self.rt, "legs improved", legs.shown())?;
+        println!(self.rt; "    by their smallest ratio, {}", legs.step())?;
+        show(self.rt, "book improved", book.shown())?;
+        println!(self.rt; "    by {}", book.step())?;
         self.show_market()
     }
 
     fn take(&mut self, tick: CubeTick) -> io::Result<()> {
-        let rt = self.rt;
         match self.market.tick(tick) {
-            Ok(()) => println!(rt; "    accepted"),
-            Err(Half::Left(fault)) => refused(rt, "book", fault),
-            Err(Half::Right(fault)) => refused(rt, "legs", fault),
+            Ok(()) => println!(self.rt; "    accepted"),
+            Err(Half::Left(fault)) => refused(self.rt, "book", fault),
+            Err(Half::Right(fault)) => refused(self.rt, "legs", fault),
         }
     }
 
     fn quote_leg(&mut self, leg: u32, bid: i64, offer: i64) -> io::Result<()> {
-        let rt = self.rt;
-        println!(rt;
+        println!(self.rt;
             "  leg {leg} is quoted {} bid, {} offered",
             Price(bid),
             Price(offer)
@@ -127,58 +124,50 @@ impl Narration<'_> {
         }))
     }
 
-    fn quote_book(&mut self, best_bid: Option<i64>, best_offer: Option<i64>) -> io::Result<()> {
-        let rt = self.rt;
-        let quote = Quote {
-            bid: best_bid,
-            offer: best_offer,
-        };
-        show(rt, "the complex book is quoted", quote)?;
+    fn quote_book(&mut self, bid: Option<i64>, offer: Option<i64>) -> io::Result<()> {
+        let quote = Quote { bid, offer };
+        show(self.rt, "the complex book is quoted", quote)?;
         self.take(Half::Left(quote))
     }
 
     fn ask(&self, side: Side, limit: i64) -> io::Result<()> {
-        let rt = self.rt;
-        println!(rt; "  an order to {side}, limit {}", Price(limit))?;
+        println!(self.rt; "  an order to {side}, limit {}", Price(limit))?;
         match permitted_range(&self.market, side, limit) {
-            Ok(range) => show_range(rt, range),
-            Err(refusal) => show_refusal(rt, refusal),
+            Ok(range) => show_range(self.rt, range),
+            Err(refusal) => show_refusal(self.rt, refusal),
         }
     }
 
     fn first_quotes(&mut self) -> io::Result<()> {
-        let rt = self.rt;
-        println!(rt; "\n2. Nothing is quoted yet, so there is no price to compete with.")?;
+        println!(self.rt; "\n2. Nothing is quoted yet, so there is no price to compete with.")?;
         self.show_market()?;
         self.ask(Side::Buy, 310)?;
-        println!(rt; "\n3. The legs are quoted. They show prices once every leg is.")?;
+        println!(self.rt; "\n3. The legs are quoted. They show prices once every leg is.")?;
         self.quote_leg(1, 500, 505)?;
         self.show_legs()?;
         self.quote_leg(2, 100, 104)?;
         self.show_legs()?;
-        println!(rt; "\n4. The complex book bids, and offers nothing.")?;
+        println!(self.rt; "\n4. The complex book bids, and offers nothing.")?;
         self.quote_book(Some(293), None)?;
         self.show_pile()
     }
 
     fn orders(&self) -> io::Result<()> {
-        let rt = self.rt;
-        println!(rt;
+        println!(self.rt;
             "\n5. An order to buy may trade from the CUBE bid up to the lower of its limit and the CUBE offer."
         )?;
         self.ask(Side::Buy, 310)?;
         self.ask(Side::Buy, 300)?;
-        println!(rt;
+        println!(self.rt;
             "\n6. An order to sell may trade from the CUBE offer down to the higher of its limit and the CUBE bid."
         )?;
         self.ask(Side::Sell, 290)?;
-        println!(rt; "\n7. A limit that the market has left behind permits nothing.")?;
+        println!(self.rt; "\n7. A limit that the market has left behind permits nothing.")?;
         self.ask(Side::Buy, 293)
     }
 
     fn moves(&mut self) -> io::Result<()> {
-        let rt = self.rt;
-        println!(rt; "\n8. A leg's quote moves, and the range follows.")?;
+        println!(self.rt; "\n8. A leg's quote moves, and the range follows.")?;
         self.quote_leg(1, 503, 506)?;
         self.show_pile()?;
         self.ask(Side::Buy, 310)?;
@@ -186,8 +175,7 @@ impl Narration<'_> {
     }
 
     fn faults(&mut self) -> io::Result<()> {
-        let rt = self.rt;
-        println!(rt; "\n9. Quotes that cannot be are refused, and nothing moves.")?;
+        println!(self.rt; "\n9. Quotes that cannot be are refused, and nothing moves.")?;
         self.quote_leg(2, 104, 104)?;
         self.quote_leg(3, 100, 104)?;
         self.quote_leg(1, 500, 1_000_001)?;
