@@ -1,6 +1,6 @@
 // Two auctions, each from its order and its responses to its fill list. Who gets what is what the library answers.
 use crate::levels::Shared;
-use crate::responses::{Told, customer, other, show_standing, store_all};
+use crate::responses::{Responses, Told, customer, other};
 use crate::steps::{show_range, show_refusal};
 use crate::table::show_table;
 use crate::text::Price;
@@ -94,10 +94,14 @@ impl<R: Called> Task<'_, R> {
         let Some(mut auction) = Auction::new(self.order(), range.floor, range.initiating) else {
             return println!(rt; "    no auction has these terms");
         };
-        if !store_all(&mut auction, self.side, self.told) {
+        let responses = Responses {
+            side: self.side,
+            told: self.told,
+        };
+        if !responses.store_all(&mut auction) {
             return println!(rt; "    a response may not stand");
         }
-        show_standing(rt, self.side, self.told)?;
+        responses.show_standing(rt)?;
         self.share_out(rt, &auction)
     }
 

@@ -47,41 +47,54 @@ pub fn other(member: u8, size: u32, price: i64) -> Told {
     }
 }
 
-// Whether all may stand; each is stored that may. The examples store theirs alike: the programs share only the layers,
-// and a layer holds nothing that only programs call.
-pub fn store_all(auction: &mut Auction, side: Side, told: &[Told]) -> bool {
-    (1..=u32::MAX)
-        .zip(told)
-        .fold(true, |all, (arrival, response)| {
-            auction.store(response.stored(side, arrival)) && all
-        })
+// The responses to an order of this side.
+#[derive(Clone, Copy)]
+pub struct Responses<'a> {
+    pub side: Side,
+    pub told: &'a [Told],
 }
 
-// By turned price, customers before others, by arrival.
-fn in_order(heap: Global, side: Side, told: &[Told]) -> Result<Vec<Response>, AllocError> {
-    let mut list: Vec<Response> = (1..=u32::MAX)
-        .zip(told)
-        .map(|(arrival, response)| response.stored(side, arrival))
-        .collect(heap)?;
-    list.sort_by_key(|response| (response.price, response.class, response.arrival))?;
-    Ok(list)
-}
-
-// From the best price on, at each price customers first, and then by arrival.
-pub fn show_standing(rt: &HostRuntime, side: Side, told: &[Told]) -> io::Result<()> {
-    println!(rt; "  the responses that stand, from the best price on:")?;
-    let list = in_order(rt.alloc(), side, told)?;
-    for response in list.iter() {
-        let Response {
-            member,
-            class,
-            size,
-            price,
-            arrival,
-            ..
-        } = *response;
-        let price = Price(side.turn(price));
-        println!(rt; "    {price}: {class}, member {member}, {size} contracts, arrival {arrival}")?;
+impl Responses<'_> {
+    // Whether all may stand; each is stored that may. The examples store theirs alike: the programs share only the
+    // layers, and a layer holds nothing that only programs call.
+    pub fn store_all(&self, auction: &mut Auction) -> bool {
+        let side = self.side;
+        (1..=u32::MAX)
+            .zip(self.told)
+            .fold(true, |all, (arrival, response)| {
+                auction.store(response.stored(side, arrival)) && all
+            })
     }
-    Ok(())
+
+    // By turned price, customers before others, by arrival.
+    fn in_order(&self, heap: Global) -> Result<Vec<Response>, AllocError> {
+        let side = self.side;
+        let mut list: Vec<Response> = (1..=u32::MAX)
+            .zip(self.told)
+            .map(|(arrival, response)| response.stored(side, arrival))
+            .collect(heap)?;
+        list.sort_by_key(|response| (response.price, response.class, response.arrival))?;
+        Ok(list)
+    }
+
+    // From the best price on, at each price customers first, and then by arrival.
+    pub fn show_standing(&self, rt: &HostRuntime) -> io::Result<()> {
+        println!(rt; "  the responses that stand, from the best price on:")?;
+        let list = self.in_order(rt.alloc())?;
+        for response in list.iter() {
+            let Response {
+                member,
+                class,
+                size,
+                price,
+                arrival,
+                ..
+            } = *response;
+            let price = Price(self.side.turn(price));
+            println!(rt;
+                "    {price}: {class}, member {member}, {size} contracts, arrival {arrival}"
+            )?;
+        }
+        Ok(())
+    }
 }

@@ -89,40 +89,26 @@ fn print_fills<R: Ranking>(rt: &HostRuntime, ranking: &R, auction: &Auction) -> 
     }
 }
 
-// From which price to which an order may trade, both turned.
-#[derive(Clone, Copy)]
-struct Range {
-    floor: i64,
-    initiating: i64,
+// An auction of the order in the range of prices from 294 to 304, which for a sell order are turned.
+fn auction_of(order: PairedOrder) -> Option<Auction> {
+    match order.side {
+        Side::Buy => Auction::new(order, 294, 304),
+        Side::Sell => Auction::new(order, -304, -294),
+    }
 }
 
-const BUYING: Range = Range {
-    floor: 294,
-    initiating: 304,
-};
-
-const SELLING: Range = Range {
-    floor: -304,
-    initiating: -294,
-};
-
-fn auction_of(order: PairedOrder, range: Range) -> Option<Auction> {
-    Auction::new(order, range.floor, range.initiating)
-}
-
-// An order in its range, with the responses to it.
+// An order with the responses to it.
 #[derive(Clone, Copy)]
 struct Case<'a> {
     title: &'a str,
     order: PairedOrder,
-    range: Range,
     told: &'a [Response],
 }
 
 impl Case<'_> {
     fn work<R: Ranking>(&self, rt: &HostRuntime, ranking: &R) -> io::Result<()> {
         println!(rt; "{}", self.title)?;
-        let Some(mut auction) = auction_of(self.order, self.range) else {
+        let Some(mut auction) = auction_of(self.order) else {
             return println!(rt; "  NO AUCTION HAS THESE TERMS");
         };
         let stored = store_all(&mut auction, self.told);
@@ -135,7 +121,6 @@ fn at_stop(rt: &HostRuntime) -> io::Result<()> {
     let case = Case {
         title: "stop 300, at it a customer and two others: the contra has 40% of the order, and not of what is left",
         order: bought(100, GuaranteeKind::SingleStop, 300),
-        range: BUYING,
         told: &[customer(2, 30, 300), other(3, 50, 300), other(4, 20, 300)],
     };
     case.work(rt, &EarlierArrival)
@@ -145,7 +130,6 @@ fn odd_contracts(rt: &HostRuntime) -> io::Result<()> {
     let by_arrival = Case {
         title: "31 contracts among 10, 20 and 10, by arrival",
         order: bought(31, GuaranteeKind::SingleStop, 300),
-        range: BUYING,
         told: &[other(2, 10, 296), other(3, 20, 296), other(4, 10, 296)],
     };
     by_arrival.work(rt, &EarlierArrival)?;
@@ -160,7 +144,6 @@ fn beyond_stop(rt: &HostRuntime) -> io::Result<()> {
     let case = Case {
         title: "responses beyond the stop get nothing",
         order: bought(100, GuaranteeKind::SingleStop, 300),
-        range: BUYING,
         told: &[other(2, 30, 302), other(3, 60, 298), customer(4, 10, 301)],
     };
     case.work(rt, &EarlierArrival)
@@ -175,7 +158,6 @@ fn one_firm(rt: &HostRuntime) -> io::Result<()> {
     let two = Case {
         title: "40%, and not 50%, with two responses of one firm",
         order: bought(99, GuaranteeKind::SingleStop, 298),
-        range: BUYING,
         told: &[first, second],
     };
     two.work(rt, &EarlierArrival)?;
@@ -198,7 +180,6 @@ fn matched(rt: &HostRuntime) -> io::Result<()> {
     let case = Case {
         title: "auto-match limit 298, customers and others",
         order: bought(100, GuaranteeKind::AutoMatchLimit, 298),
-        range: BUYING,
         told: &[
             customer(2, 10, 298),
             other(3, 20, 298),
@@ -213,7 +194,6 @@ fn below_floor(rt: &HostRuntime) -> io::Result<()> {
     let case = Case {
         title: "auto-match limit 290, below a floor that has risen to 294: matched from the floor on",
         order: bought(100, GuaranteeKind::AutoMatchLimit, 290),
-        range: BUYING,
         told: &[other(2, 20, 295), other(3, 10, 301)],
     };
     case.work(rt, &EarlierArrival)
@@ -223,7 +203,6 @@ fn sold(rt: &HostRuntime) -> io::Result<()> {
     let case = Case {
         title: "a sell order: prices are not turned",
         order: order(Side::Sell, 100, GuaranteeKind::SingleStop, -300),
-        range: SELLING,
         told: &[
             customer(2, 30, -300),
             other(3, 50, -300),
@@ -244,7 +223,7 @@ fn edges(rt: &HostRuntime) -> io::Result<()> {
         "no auction has a stop below its floor, a guarantee above the initiating price, or no size"
     )?;
     let has_none = |size, price| {
-        auction_of(bought(size, GuaranteeKind::SingleStop, price), BUYING).is_none()
+        auction_of(bought(size, GuaranteeKind::SingleStop, price)).is_none()
     };
     let below = has_none(100, 293);
     let above = has_none(100, 305);
@@ -310,7 +289,7 @@ fn lengths(rt: &HostRuntime) -> io::Result<()> {
 // stand is refused, and nothing changes.
 fn changes(rt: &HostRuntime) -> io::Result<()> {
     println!(rt; "30 contracts among 20, 20 and 20: one is changed, one withdrawn")?;
-    let Some(mut auction) = auction_of(bought(30, GuaranteeKind::SingleStop, 300), BUYING) else {
+    let Some(mut auction) = auction_of(bought(30, GuaranteeKind::SingleStop, 300)) else {
         return println!(rt; "  NO AUCTION HAS THESE TERMS");
     };
     let three_alike = [2, 3, 4].map(|member| other(member, 20, 297));
