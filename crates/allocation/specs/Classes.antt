@@ -1,5 +1,5 @@
 -- The classes of responses, by number.
-use Rattle.std.specs.Prelude.{ℕ}
+use Rattle.std.specs.Prelude.{ℕ, List, codes}
 use Rattle.allocation.specs.declared.response.Class.{Class}
 use Rattle.allocation.specs.declared.response.Class.TheVariants.{Customer, Other}
 
@@ -7,3 +7,8 @@ use Rattle.allocation.specs.declared.response.Class.TheVariants.{Customer, Other
 abbrev pub class_number : Class → ℕ
 class_number Customer = 0
 class_number Other = 1
+
+-- The name of a class.
+abbrev pub class_name : Class → List ℕ
+class_name Customer = codes "customer"
+class_name Other = codes "other"

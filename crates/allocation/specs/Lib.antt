@@ -1,5 +1,6 @@
 pub mod Causes
 pub mod Classes
+pub mod Guarantees
 pub mod Refusals
 pub mod Rankings
 pub mod Shares

@@ -1,12 +1,30 @@
 // The order of an auction, with the guarantee that the contra firm gives for it.
+ghost use Rattle.std.specs.Prelude.{Some};
+ghost use Rattle.std.specs.Fmt.{padded};
+ghost use Rattle.allocation.specs.Guarantees.{kind_name};
+
 use market::side::Side;
+use std::fmt;
 
 // A single stop is one price at which the contra firm takes the order; an auto-match limit is the price from which it
 // matches what others offer.
-#[derive(Clone, Copy)]
+#[derive(Clone, Copy, PartialEq, Eq, Debug)]
 pub enum GuaranteeKind {
     SingleStop,
     AutoMatchLimit,
+}
+
+impl fmt::Display for GuaranteeKind {
+    ghost output = { λ kind. Some (kind_name kind) };
+
+    ghost styled_output = { λ kind style. Some (padded style (kind_name kind)) };
+
+    fn fmt<W: fmt::Write>(&self, f: &mut fmt::Formatter<W>) -> fmt::Result {
+        f.pad(match self {
+            GuaranteeKind::SingleStop => "single stop",
+            GuaranteeKind::AutoMatchLimit => "auto-match limit",
+        })
+    }
 }
 
 #[derive(Clone, Copy)]

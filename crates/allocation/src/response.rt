@@ -1,19 +1,22 @@
 // A response as it stands in an auction.
-ghost use Rattle.std.specs.Prelude.{◌≡◌};
-ghost use Rattle.allocation.specs.Classes.{class_number};
+ghost use Rattle.std.specs.Prelude.{◌≡◌, Some};
+ghost use Rattle.std.specs.Fmt.{padded};
+ghost use Rattle.allocation.specs.Classes.{class_number, class_name};
+
+use std::fmt;
 
 // In the room a sealed response may be changed and withdrawn, and a plain one may not.
-#[derive(Clone, Copy)]
+#[derive(Clone, Copy, PartialEq, Eq, Debug)]
 pub enum Kind {
     Sealed,
     Plain,
 }
 
 // Customers share first at each price.
-#[derive(Clone, Copy)]
+#[derive(Clone, Copy, PartialEq, Eq, PartialOrd, Ord, Debug)]
 pub enum Class {
-    Customer,
-    Other,
+    Customer = 0,
+    Other = 1,
 }
 
 impl Class {
@@ -21,10 +24,20 @@ impl Class {
     pub fn number(self) -> u8
         ensures { result ≡ class_number self }
     {
-        match self {
-            Class::Customer => 0,
-            Class::Other => 1,
-        }
+        self as u8
+    }
+}
+
+impl fmt::Display for Class {
+    ghost output = { λ class. Some (class_name class) };
+
+    ghost styled_output = { λ class style. Some (padded style (class_name class)) };
+
+    fn fmt<W: fmt::Write>(&self, f: &mut fmt::Formatter<W>) -> fmt::Result {
+        f.pad(match self {
+            Class::Customer => "customer",
+            Class::Other => "other",
+        })
     }
 }
 

@@ -1,159 +1,121 @@
 // Two auctions, each from its order and its responses to its fill list. Who gets what is what the library answers.
-use crate::levels::{Shared, show_levels};
-use crate::responses::{Told, show_standing, store_all};
-use crate::steps::{name_of, show_range, show_refusal};
+use crate::levels::Shared;
+use crate::responses::{Responses, Told, customer, other};
+use crate::steps::{show_range, show_refusal};
 use crate::table::show_table;
 use crate::text::Price;
 use allocation::auction::Auction;
-use allocation::fill::FillRow;
+use allocation::fill::{FillRow, LEAST_ROWS};
 use allocation::order::{Guarantee, GuaranteeKind, PairedOrder};
 use allocation::ranking::Ranking;
 use allocation::rankings::{EarlierArrival, LargerSize};
-use allocation::response::{Class, Kind};
 use market::market::Market;
 use market::range::PermittedRange;
 use market::range::permitted::permitted_range;
 use market::side::Side;
 use std::io;
 
-const BLANK: FillRow = FillRow {
-    price: 0,
-    member: 0,
-    own: 0,
-    class: Class::Other,
-    kind: Kind::Plain,
-    filled: 0,
-    left: 0,
-};
+// A ranking, and how the narration calls it.
+trait Called: Ranking {
+    const NAME: &'static str;
+}
 
-// What an auction is told, its prices not turned, and how its ranking is called.
+impl Called for EarlierArrival {
+    const NAME: &'static str = "the earlier arrival first";
+}
+
+impl Called for LargerSize {
+    const NAME: &'static str = "the larger size first";
+}
+
+// What an auction is told, its prices not turned, and its ranking.
 #[derive(Clone, Copy)]
-struct Task<'a> {
+struct Task<'a, R> {
     side: Side,
     size: u32,
     limit: i64,
     kind: GuaranteeKind,
     price: i64,
     told: &'a [Told],
-    ranked: &'static str,
+    ranking: R,
 }
 
-fn order_of(task: Task<'_>) -> PairedOrder {
-    PairedOrder {
-        side: task.side,
-        size: task.size,
-        limit: task.side.turn(task.limit),
-        guarantee: Guarantee {
-            kind: task.kind,
-            price: task.side.turn(task.price),
-        },
+impl<R: Called> Task<'_, R> {
+    fn order(&self) -> PairedOrder {
+        PairedOrder {
+            side: self.side,
+            size: self.size,
+            limit: self.side.turn(self.limit),
+            guarantee: Guarantee {
+                kind: self.kind,
+                price: self.side.turn(self.price),
+            },
+        }
     }
-}
 
-fn name_of_kind(kind: GuaranteeKind) -> &'static str {
-    match kind {
-        GuaranteeKind::SingleStop => "single stop",
-        GuaranteeKind::AutoMatchLimit => "auto-match limit",
+    fn show_order(&self, rt: &HostRuntime) -> io::Result<()> {
+        let Task {
+            side,
+            size,
+            kind,
+            ..
+        } = *self;
+        let limit = Price(self.limit);
+        let price = Price(self.price);
+        println!(rt;
+            "  an order to {side} {size} contracts, limit {limit}, guarantee: {kind} {price}"
+        )
     }
-}
 
-fn show_order(rt: &HostRuntime, task: Task<'_>) -> io::Result<()> {
-    let name = name_of(task.side);
-    let size = task.size;
-    let limit = Price { cents: task.limit };
-    let kind = name_of_kind(task.kind);
-    let price = Price { cents: task.price };
-    println!(rt; "  an order to {name} {size} contracts, limit {limit}, guarantee: {kind} {price}")
-}
+    // The levels and the table of a fill list.
+    fn show_fills(&self, rt: &HostRuntime, auction: &Auction, rows: &[FillRow]) -> io::Result<()> {
+        let shared = Shared {
+            rows,
+            kind: self.kind,
+            initiating: self.side.turn(auction.initiating()),
+            ranked: R::NAME,
+        };
+        shared.show_levels(rt, self.size)?;
+        show_table(rt, rows, self.size)
+    }
 
-// The levels and the table of a fill list.
-fn show_fills(
-    rt: &HostRuntime,
-    task: Task<'_>,
-    range: PermittedRange,
-    rows: &[FillRow],
-) -> io::Result<()> {
-    let shared = Shared {
-        rows,
-        kind: task.kind,
-        initiating: range.initiating_price(),
-        ranked: task.ranked,
-    };
-    show_levels(rt, shared, task.size)?;
-    show_table(rt, rows, task.size)
-}
+    fn share_out(&self, rt: &HostRuntime, auction: &Auction) -> io::Result<()> {
+        let guaranteed = auction.guaranteed();
+        println!(rt; "  G, the share that the contra is guaranteed: {guaranteed}")?;
+        let mut rows = [FillRow::BLANK; LEAST_ROWS];
+        match auction.fill(&self.ranking, &mut rows) {
+            Ok(count) => self.show_fills(rt, auction, rows.get(..count).unwrap_or(&[])),
+            Err(refusal) => println!(rt; "    refused: {}", refusal.number()),
+        }
+    }
 
-fn share_out<R: Ranking>(
-    rt: &HostRuntime,
-    ranking: &R,
-    task: Task<'_>,
-    range: PermittedRange,
-    auction: &Auction,
-) -> io::Result<()> {
-    let guaranteed = auction.guaranteed();
-    println!(rt; "  G, the share that the contra is guaranteed: {guaranteed}")?;
-    let mut rows = [BLANK; 129];
-    match auction.fill(ranking, &mut rows) {
-        Ok(count) => show_fills(rt, task, range, rows.get(0..count).unwrap_or(&[])),
-        Err(refusal) => {
-            let number = refusal.number();
-            println!(rt; "    refused: {number}")
+    // The auction of the order, in the range that it is permitted.
+    fn hold(&self, rt: &HostRuntime, range: PermittedRange) -> io::Result<()> {
+        let Some(mut auction) = Auction::new(self.order(), range.floor, range.initiating) else {
+            return println!(rt; "    no auction has these terms");
+        };
+        let responses = Responses {
+            side: self.side,
+            told: self.told,
+        };
+        if !responses.store_all(&mut auction) {
+            return println!(rt; "    a response may not stand");
+        }
+        responses.show_standing(rt)?;
+        self.share_out(rt, &auction)
+    }
+
+    fn work<M: Market>(&self, rt: &HostRuntime, market: &M) -> io::Result<()> {
+        self.show_order(rt)?;
+        match permitted_range(market, self.side, self.limit) {
+            Ok(range) => {
+                show_range(rt, range)?;
+                self.hold(rt, range)
+            }
+            Err(refusal) => show_refusal(rt, refusal),
         }
     }
 }
-
-// The auction of an order, in the range that it is permitted.
-fn hold<R: Ranking>(
-    rt: &HostRuntime,
-    ranking: &R,
-    task: Task<'_>,
-    range: PermittedRange,
-) -> io::Result<()> {
-    let Some(made) = Auction::new(order_of(task), range.floor, range.initiating) else {
-        return println!(rt; "    no auction has these terms");
-    };
-    let mut auction = made;
-    if !store_all(&mut auction, task.side, task.told) {
-        return println!(rt; "    a response may not stand");
-    }
-    show_standing(rt, task.side, task.told)?;
-    share_out(rt, ranking, task, range, &auction)
-}
-
-fn work<M: Market, R: Ranking>(
-    rt: &HostRuntime,
-    market: &M,
-    ranking: &R,
-    task: Task<'_>,
-) -> io::Result<()> {
-    show_order(rt, task)?;
-    match permitted_range(market, task.side, task.limit) {
-        Ok(range) => {
-            show_range(rt, range)?;
-            hold(rt, ranking, task, range)
-        }
-        Err(refusal) => show_refusal(rt, refusal),
-    }
-}
-
-const TO_BUY: [Told; 5] = [
-    (3, Class::Other, 50, 300),
-    (4, Class::Other, 20, 300),
-    (5, Class::Other, 25, 297),
-    (2, Class::Customer, 30, 300),
-    (6, Class::Other, 15, 302),
-];
-
-const TO_SELL: [Told; 8] = [
-    (2, Class::Other, 9, 300),
-    (3, Class::Other, 17, 300),
-    (4, Class::Other, 10, 302),
-    (5, Class::Other, 21, 300),
-    (6, Class::Customer, 10, 304),
-    (7, Class::Customer, 5, 302),
-    (8, Class::Other, 15, 304),
-    (9, Class::Customer, 10, 300),
-];
 
 fn buy<M: Market>(rt: &HostRuntime, market: &M) -> io::Result<()> {
     println!(rt;
@@ -166,10 +128,16 @@ fn buy<M: Market>(rt: &HostRuntime, market: &M) -> io::Result<()> {
         limit: 310,
         kind: GuaranteeKind::SingleStop,
         price: 300,
-        told: &TO_BUY,
-        ranked: "the earlier arrival first",
+        told: &[
+            other(3, 50, 300),
+            other(4, 20, 300),
+            other(5, 25, 297),
+            customer(2, 30, 300),
+            other(6, 15, 302),
+        ],
+        ranking: EarlierArrival,
     };
-    work(rt, market, &EarlierArrival, task)
+    task.work(rt, market)
 }
 
 fn sell<M: Market>(rt: &HostRuntime, market: &M) -> io::Result<()> {
@@ -185,10 +153,19 @@ fn sell<M: Market>(rt: &HostRuntime, market: &M) -> io::Result<()> {
         limit: 290,
         kind: GuaranteeKind::AutoMatchLimit,
         price: 302,
-        told: &TO_SELL,
-        ranked: "the larger size first",
+        told: &[
+            other(2, 9, 300),
+            other(3, 17, 300),
+            other(4, 10, 302),
+            other(5, 21, 300),
+            customer(6, 10, 304),
+            customer(7, 5, 302),
+            other(8, 15, 304),
+            customer(9, 10, 300),
+        ],
+        ranking: LargerSize,
     };
-    work(rt, market, &LargerSize, task)
+    task.work(rt, market)
 }
 
 pub fn auctions<M: Market>(rt: &HostRuntime, market: &M) -> io::Result<()> {

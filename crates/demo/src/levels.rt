@@ -1,9 +1,154 @@
 // A fill list level by level: what was left, who got how many of it, and how a class shared too few.
+use crate::table::filled_in;
 use crate::text::Price;
 use allocation::fill::FillRow;
 use allocation::order::GuaranteeKind;
 use allocation::response::Class;
-use std::io;
+use std::{fmt, io};
+
+#[derive(Clone, Copy, PartialEq, Eq)]
+enum Party {
+    Customers,
+    Contra,
+    Others,
+}
+
+impl Party {
+    fn of(row: &FillRow) -> Party {
+        match (row.member, row.class) {
+            (0, _) => Party::Contra,
+            (_, Class::Customer) => Party::Customers,
+            (_, Class::Other) => Party::Others,
+        }
+    }
+}
+
+impl fmt::Display for Party {
+    fn fmt<W: fmt::Write>(&self, f: &mut fmt::Formatter<W>) -> fmt::Result {
+        f.pad(match self {
+            Party::Customers => "customers",
+            Party::Contra => "contra",
+            Party::Others => "others",
+        })
+    }
+}
+
+fn size_of(row: &FillRow) -> u32 {
+    row.filled.saturating_add(row.left)
+}
+
+// A party's rows at a level, in the order of the ranking.
+#[derive(Clone, Copy)]
+struct Part<'a> {
+    party: Party,
+    rows: &'a [FillRow],
+}
+
+impl<'a> Part<'a> {
+    // Of the rows of one level, where those of each party stand together.
+    fn of(party: Party, level: &'a [FillRow]) -> Part<'a> {
+        let rows = level
+            .chunk_by(|row, next| Party::of(row) == Party::of(next))
+            .find(|rows| rows.first().is_some_and(|row| Party::of(row) == party))
+            .unwrap_or(&[]);
+        Part { party, rows }
+    }
+
+    // K, what the party got.
+    fn got(&self) -> u32 {
+        filled_in(self.rows)
+    }
+
+    // T, the total size that it stood there with.
+    fn size(&self) -> u32 {
+        self.rows
+            .iter()
+            .fold(0, |sum: u32, row| sum.saturating_add(size_of(row)))
+    }
+
+    // K × size / T, rounded down.
+    fn rounded_down(&self, row: &FillRow) -> u64 {
+        u64::from(self.got())
+            .saturating_mul(u64::from(size_of(row)))
+            .checked_div(u64::from(self.size()))
+            .unwrap_or(0)
+    }
+
+    // The contracts that rounding down leaves.
+    fn odd_contracts(&self) -> u64 {
+        self.rows.iter().fold(u64::from(self.got()), |odd, row| {
+            odd.saturating_sub(self.rounded_down(row))
+        })
+    }
+
+    // One response of a class that shares too few; `place` is its place in the ranking.
+    fn show_share(&self, rt: &HostRuntime, place: u32, row: &FillRow) -> io::Result<()> {
+        let FillRow { member, filled, .. } = *row;
+        let got = self.got();
+        let total = self.size();
+        let size = size_of(row);
+        let share = self.rounded_down(row);
+        print!(rt; "      member {member}: {got} × {size} / {total} rounded down is {share}")?;
+        if u64::from(filled) == share {
+            println!(rt; "")
+        } else {
+            println!(rt; ", and an odd contract as number {place} in the ranking: {filled}")
+        }
+    }
+
+    fn show_shares(&self, rt: &HostRuntime, ranked: &str) -> io::Result<()> {
+        for (place, row) in (1..=u32::MAX).zip(self.rows) {
+            self.show_share(rt, place, row)?;
+        }
+        match self.odd_contracts() {
+            0 => println!(rt; "      odd contracts: none"),
+            odd => println!(rt; "      odd contracts: {odd}, one each, {ranked}"),
+        }
+    }
+
+    fn show(&self, rt: &HostRuntime, ranked: &str) -> io::Result<()> {
+        let party = self.party;
+        let got = self.got();
+        let size = self.size();
+        if size == 0 {
+            println!(rt; "    {party}: none stand here")
+        } else if size <= got {
+            println!(rt; "    {party}: {got}, all that they stand with")
+        } else {
+            println!(rt; "    {party}: {got} of the {size} that they stand with")?;
+            self.show_shares(rt, ranked)
+        }
+    }
+}
+
+// What each party got at a level.
+#[derive(Clone, Copy)]
+struct Level<'a> {
+    price: i64,
+    customers: Part<'a>,
+    contra: Part<'a>,
+    others: Part<'a>,
+}
+
+impl<'a> Level<'a> {
+    // Of the rows of one price; none of no rows.
+    fn of(rows: &'a [FillRow]) -> Option<Level<'a>> {
+        Some(Level {
+            price: rows.first()?.price,
+            customers: Part::of(Party::Customers, rows),
+            contra: Part::of(Party::Contra, rows),
+            others: Part::of(Party::Others, rows),
+        })
+    }
+
+    // What is left of so many contracts.
+    fn left_of(&self, before: u32) -> u32 {
+        before
+            .saturating_sub(self.customers.got())
+            .saturating_sub(self.contra.got())
+            .saturating_sub(self.others.got())
+    }
+}
 
 // A fill list, with the kind of the guarantee, the initiating price (not turned) and how the ranking is called.
 #[derive(Clone, Copy)]
@@ -14,198 +159,48 @@ pub struct Shared<'a> {
     pub ranked: &'static str,
 }
 
-#[derive(Clone, Copy)]
-enum Party {
-    Customers,
-    Contra,
-    Others,
-}
-
-// What a party got at a level, and the total size that it stood there with.
-#[derive(Clone, Copy)]
-struct Part {
-    got: u32,
-    size: u32,
-}
-
-// What each party got at a level.
-#[derive(Clone, Copy)]
-struct Level {
-    price: i64,
-    customers: Part,
-    contra: Part,
-    others: Part,
-}
-
-fn party_of(row: &FillRow) -> Party {
-    match (row.member, row.class) {
-        (0, _) => Party::Contra,
-        (_, Class::Customer) => Party::Customers,
-        (_, Class::Other) => Party::Others,
+impl Shared<'_> {
+    // Whether the contra got as many as both classes stand with, short of the initiating price.
+    fn is_matched(&self, level: &Level<'_>) -> bool {
+        self.kind == GuaranteeKind::AutoMatchLimit
+            && level.price != self.initiating
+            && level.others.got() == level.others.size()
+            && level.contra.got() == level.customers.size().saturating_add(level.others.size())
     }
-}
 
-fn is_at(row: &FillRow, price: i64, party: Party) -> bool {
-    row.price == price
-        && matches!(
-            (party_of(row), party),
-            (Party::Contra, Party::Contra)
-                | (Party::Customers, Party::Customers)
-                | (Party::Others, Party::Others)
-        )
-}
-
-fn size_of(row: &FillRow) -> u32 {
-    row.filled.saturating_add(row.left)
-}
-
-fn part_of(rows: &[FillRow], price: i64, party: Party) -> Part {
-    let mut part = Part { got: 0, size: 0 };
-    for row in rows {
-        if is_at(row, price, party) {
-            part.got = part.got.saturating_add(row.filled);
-            part.size = part.size.saturating_add(size_of(row));
+    fn show_contra(&self, rt: &HostRuntime, level: &Level<'_>) -> io::Result<()> {
+        let got = level.contra.got();
+        if got == 0 {
+            println!(rt; "    contra: 0")
+        } else if self.is_matched(level) {
+            println!(rt; "    contra: {got}, matching what customers and others stand with")
+        } else {
+            println!(rt; "    contra: {got}, cleaning up")
         }
     }
-    part
-}
 
-fn level_of(rows: &[FillRow], price: i64) -> Level {
-    Level {
-        price,
-        customers: part_of(rows, price, Party::Customers),
-        contra: part_of(rows, price, Party::Contra),
-        others: part_of(rows, price, Party::Others),
+    // Shows a level and answers what it leaves of the order.
+    fn show_level(&self, rt: &HostRuntime, level: &Level<'_>, before: u32) -> io::Result<u32> {
+        println!(rt; "  level {}: R is {before}", Price(level.price))?;
+        level.customers.show(rt, self.ranked)?;
+        self.show_contra(rt, level)?;
+        level.others.show(rt, self.ranked)?;
+        let after = level.left_of(before);
+        println!(rt; "    R is then {after}")?;
+        Ok(after)
     }
-}
 
-// K × size / T, rounded down.
-fn rounded_down(part: Part, size: u32) -> u64 {
-    if part.size == 0 {
-        return 0;
-    }
-    u64::from(part.got).saturating_mul(u64::from(size)) / u64::from(part.size)
-}
-
-// The contracts that rounding down leaves.
-fn odd_contracts(rows: &[FillRow], price: i64, party: Party, part: Part) -> u64 {
-    let mut odd = u64::from(part.got);
-    for row in rows {
-        if is_at(row, price, party) {
-            odd = odd.saturating_sub(rounded_down(part, size_of(row)));
+    // Each level of the fill list in turn, with R, what is left of the order.
+    pub fn show_levels(&self, rt: &HostRuntime, size: u32) -> io::Result<()> {
+        println!(rt; "  level by level, R being what is left of the order:")?;
+        let mut left = size;
+        for level in self
+            .rows
+            .chunk_by(|row, next| row.price == next.price)
+            .filter_map(Level::of)
+        {
+            left = self.show_level(rt, &level, left)?;
         }
+        Ok(())
     }
-    odd
-}
-
-// One response of a class that shares too few; `place` is its place in the ranking.
-fn show_share(rt: &HostRuntime, row: &FillRow, part: Part, place: u32) -> io::Result<()> {
-    let member = row.member;
-    let got = part.got;
-    let total = part.size;
-    let size = size_of(row);
-    let share = rounded_down(part, size);
-    let filled = row.filled;
-    print!(rt; "      member {member}: {got} × {size} / {total} rounded down is {share}")?;
-    if u64::from(filled) == share {
-        println!(rt; "")
-    } else {
-        println!(rt; ", and an odd contract as number {place} in the ranking: {filled}")
-    }
-}
-
-fn show_shares(
-    rt: &HostRuntime,
-    shared: Shared<'_>,
-    price: i64,
-    party: Party,
-    part: Part,
-) -> io::Result<()> {
-    let mut place = 0u32;
-    for row in shared.rows {
-        if is_at(row, price, party) {
-            place = place.saturating_add(1);
-            show_share(rt, row, part, place)?;
-        }
-    }
-    let odd = odd_contracts(shared.rows, price, party, part);
-    let ranked = shared.ranked;
-    if odd == 0 {
-        println!(rt; "      odd contracts: none")
-    } else {
-        println!(rt; "      odd contracts: {odd}, one each, {ranked}")
-    }
-}
-
-fn show_class(
-    rt: &HostRuntime,
-    shared: Shared<'_>,
-    price: i64,
-    party: Party,
-    part: Part,
-) -> io::Result<()> {
-    let name = match party {
-        Party::Customers => "customers",
-        Party::Contra => "contra",
-        Party::Others => "others",
-    };
-    let got = part.got;
-    let size = part.size;
-    if size == 0 {
-        println!(rt; "    {name}: none stand here")
-    } else if size <= got {
-        println!(rt; "    {name}: {got}, all that they stand with")
-    } else {
-        println!(rt; "    {name}: {got} of the {size} that they stand with")?;
-        show_shares(rt, shared, price, party, part)
-    }
-}
-
-// Whether the contra got as many as both classes stand with, short of the initiating price.
-fn is_matched(shared: Shared<'_>, level: Level) -> bool {
-    matches!(shared.kind, GuaranteeKind::AutoMatchLimit)
-        && level.price != shared.initiating
-        && level.others.got == level.others.size
-        && level.contra.got == level.customers.size.saturating_add(level.others.size)
-}
-
-fn show_contra(rt: &HostRuntime, shared: Shared<'_>, level: Level) -> io::Result<()> {
-    let got = level.contra.got;
-    if got == 0 {
-        println!(rt; "    contra: 0")
-    } else if is_matched(shared, level) {
-        println!(rt; "    contra: {got}, matching what customers and others stand with")
-    } else {
-        println!(rt; "    contra: {got}, cleaning up")
-    }
-}
-
-// Shows a level and answers what it leaves of the order.
-fn show_level(rt: &HostRuntime, shared: Shared<'_>, price: i64, before: u32) -> io::Result<u32> {
-    let level = level_of(shared.rows, price);
-    let at = Price { cents: price };
-    println!(rt; "  level {at}: R is {before}")?;
-    show_class(rt, shared, price, Party::Customers, level.customers)?;
-    show_contra(rt, shared, level)?;
-    show_class(rt, shared, price, Party::Others, level.others)?;
-    let after = before
-        .saturating_sub(level.customers.got)
-        .saturating_sub(level.contra.got)
-        .saturating_sub(level.others.got);
-    println!(rt; "    R is then {after}")?;
-    Ok(after)
-}
-
-// Each level of the fill list in turn, with R, what is left of the order.
-pub fn show_levels(rt: &HostRuntime, shared: Shared<'_>, size: u32) -> io::Result<()> {
-    println!(rt; "  level by level, R being what is left of the order:")?;
-    let mut left = size;
-    let mut last: Option<i64> = None;
-    for row in shared.rows {
-        if last != Some(row.price) {
-            left = show_level(rt, shared, row.price, left)?;
-            last = Some(row.price);
-        }
-    }
-    Ok(())
 }

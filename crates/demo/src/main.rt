@@ -31,9 +31,6 @@ fn main(rt: HostRuntime) -> io::Result<()> {
     steps::show_terms(&rt, 2, second)?;
     match Legs::new(first, second) {
         Ok(legs) => steps::narrate(&rt, legs),
-        Err(refusal) => {
-            let number = refusal.number();
-            println!(rt; "  refused: {number}")
-        }
+        Err(refusal) => println!(rt; "  refused: {}", refusal.number()),
     }
 }

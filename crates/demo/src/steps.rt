@@ -15,32 +15,15 @@ use market::side::Side;
 use std::io;
 
 pub fn show_terms(rt: &HostRuntime, number: u32, terms: LegTerms) -> io::Result<()> {
-    let name = name_of(terms.side);
-    let ratio = terms.ratio;
-    println!(rt; "  leg {number}: {name} {ratio}")
+    let LegTerms { side, ratio } = terms;
+    println!(rt; "  leg {number}: {side} {ratio}")
 }
 
 fn show(rt: &HostRuntime, what: &str, quote: Quote) -> io::Result<()> {
-    let bid = bid(quote);
-    let offer = offer(quote);
-    println!(rt; "  {what}: {bid}, {offer}")
+    println!(rt; "  {what}: {}, {}", bid(quote), offer(quote))
 }
 
-// Each market of the pile, from what it is made of to the CUBE market itself.
-fn show_pile(rt: &HostRuntime, market: &CubeMarket) -> io::Result<()> {
-    let book = market.left();
-    let legs = market.right();
-    show(rt, "legs", legs.inner().shown())?;
-    show(rt, "book", book.inner().shown())?;
-    let ratio = legs.step();
-    show(rt, "legs improved", legs.shown())?;
-    println!(rt; "    by their smallest ratio, {ratio}")?;
-    let cents = book.step();
-    show(rt, "book improved", book.shown())?;
-    println!(rt; "    by {cents}")?;
-    show(rt, "CUBE market", market.shown())
-}
-
+// No Display of Cause: these are the narration's words, and the library knows a cause by its number alone.
 fn meaning_of(cause: Cause) -> &'static str {
     match cause {
         Cause::NoSuchLeg => "no such leg",
@@ -50,92 +33,36 @@ fn meaning_of(cause: Cause) -> &'static str {
 }
 
 fn refused(rt: &HostRuntime, half: &str, fault: Fault) -> io::Result<()> {
-    let cause = fault.cause.number();
-    let place = fault.place;
-    let meaning = meaning_of(fault.cause);
-    println!(rt; "    refused by the {half}: cause {cause} ({meaning}), place {place}")
-}
-
-fn take(rt: &HostRuntime, market: &mut CubeMarket, tick: CubeTick) -> io::Result<()> {
-    match market.tick(tick) {
-        Ok(()) => println!(rt; "    accepted"),
-        Err(Half::Left(fault)) => refused(rt, "book", fault),
-        Err(Half::Right(fault)) => refused(rt, "legs", fault),
-    }
-}
-
-fn quote_leg(
-    rt: &HostRuntime,
-    market: &mut CubeMarket,
-    leg: u32,
-    bid: i64,
-    offer: i64,
-) -> io::Result<()> {
-    let low = Price { cents: bid };
-    let high = Price { cents: offer };
-    println!(rt; "  leg {leg} is quoted {low} bid, {high} offered")?;
-    take(
-        rt,
-        market,
-        Half::Right(LegTick {
-            leg,
-            quote: LegQuote { bid, offer },
-        }),
-    )
-}
-
-fn quote_book(rt: &HostRuntime, market: &mut CubeMarket, quote: Quote) -> io::Result<()> {
-    let low = bid(quote);
-    let high = offer(quote);
-    println!(rt; "  the complex book is quoted: {low}, {high}")?;
-    take(rt, market, Half::Left(quote))
-}
-
-pub fn name_of(side: Side) -> &'static str {
-    match side {
-        Side::Buy => "buy",
-        Side::Sell => "sell",
-    }
-}
-
-// For a sell order prices are compared with their signs changed.
-fn show_turned(rt: &HostRuntime, range: PermittedRange) -> io::Result<()> {
-    let floor = Price { cents: range.floor };
-    let contra = Price {
-        cents: range.contra,
-    };
-    let initiating = Price {
-        cents: range.initiating,
-    };
-    match range.side {
-        Side::Buy => Ok(()),
-        Side::Sell => println!(rt;
-            "    compared as {floor}, {contra} and {initiating}: for every order, lower is better"
-        ),
-    }
+    let Fault { cause, place } = fault;
+    let number = cause.number();
+    let meaning = meaning_of(cause);
+    println!(rt; "    refused by the {half}: cause {number} ({meaning}), place {place}")
 }
 
 pub fn show_range(rt: &HostRuntime, range: PermittedRange) -> io::Result<()> {
-    let floor = Price {
-        cents: range.floor_price(),
-    };
-    let contra = Price {
-        cents: range.contra_price(),
-    };
-    let initiating = Price {
-        cents: range.initiating_price(),
-    };
-    let lowest = Price {
-        cents: range.lowest(),
-    };
-    let highest = Price {
-        cents: range.highest(),
-    };
-    println!(rt; "    floor {floor}, contra price {contra}, initiating price {initiating}")?;
-    show_turned(rt, range)?;
-    println!(rt; "    permitted range: {lowest} to {highest}")
+    println!(rt;
+        "    floor {}, contra price {}, initiating price {}",
+        Price(range.floor_price()),
+        Price(range.contra_price()),
+        Price(range.initiating_price()),
+    )?;
+    // For a sell order prices are compared with their signs changed.
+    if range.side == Side::Sell {
+        println!(rt;
+            "    compared as {}, {} and {}: for every order, lower is better",
+            Price(range.floor),
+            Price(range.contra),
+            Price(range.initiating),
+        )?;
+    }
+    println!(rt;
+        "    permitted range: {} to {}",
+        Price(range.lowest()),
+        Price(range.highest()),
+    )
 }
 
+// No Display of RangeRefusal: these are the narration's words, and the library knows a refusal by its number alone.
 fn why(refusal: RangeRefusal) -> &'static str {
     match refusal {
         RangeRefusal::PriceOutsideLimits => "a price outside the limits",
@@ -145,93 +72,127 @@ fn why(refusal: RangeRefusal) -> &'static str {
 }
 
 pub fn show_refusal(rt: &HostRuntime, refusal: RangeRefusal) -> io::Result<()> {
-    let number = refusal.number();
-    let reason = why(refusal);
-    println!(rt; "    refused: {number}, {reason}")
+    println!(rt; "    refused: {}, {}", refusal.number(), why(refusal))
 }
 
-fn ask(rt: &HostRuntime, market: &CubeMarket, side: Side, limit: i64) -> io::Result<()> {
-    let name = name_of(side);
-    let price = Price { cents: limit };
-    println!(rt; "  an order to {name}, limit {price}")?;
-    match permitted_range(market, side, limit) {
-        Ok(range) => show_range(rt, range),
-        Err(refusal) => show_refusal(rt, refusal),
+// What is told of one CUBE market.
+#[derive(Drop)]
+struct Narration<'a> {
+    rt: &'a HostRuntime,
+    market: CubeMarket,
+}
+
+impl Narration<'_> {
+    fn show_market(&self) -> io::Result<()> {
+        show(self.rt, "CUBE market", self.market.shown())
+    }
+
+    fn show_legs(&self) -> io::Result<()> {
+        show(self.rt, "legs", self.market.right().inner().shown())
+    }
+
+    // Each market of the pile, from what it is made of to the CUBE market itself.
+    fn show_pile(&self) -> io::Result<()> {
+        let book = self.market.left();
+        let legs = self.market.right();
+        self.show_legs()?;
+        show(self.rt, "book", book.inner().shown())?;
+        show(self.rt, "legs improved", legs.shown())?;
+        println!(self.rt; "    by their smallest ratio, {}", legs.step())?;
+        show(self.rt, "book improved", book.shown())?;
+        println!(self.rt; "    by {}", book.step())?;
+        self.show_market()
+    }
+
+    fn take(&mut self, tick: CubeTick) -> io::Result<()> {
+        match self.market.tick(tick) {
+            Ok(()) => println!(self.rt; "    accepted"),
+            Err(Half::Left(fault)) => refused(self.rt, "book", fault),
+            Err(Half::Right(fault)) => refused(self.rt, "legs", fault),
+        }
+    }
+
+    fn quote_leg(&mut self, leg: u32, bid: i64, offer: i64) -> io::Result<()> {
+        println!(self.rt;
+            "  leg {leg} is quoted {} bid, {} offered",
+            Price(bid),
+            Price(offer)
+        )?;
+        self.take(Half::Right(LegTick {
+            leg,
+            quote: LegQuote { bid, offer },
+        }))
+    }
+
+    fn quote_book(&mut self, bid: Option<i64>, offer: Option<i64>) -> io::Result<()> {
+        let quote = Quote { bid, offer };
+        show(self.rt, "the complex book is quoted", quote)?;
+        self.take(Half::Left(quote))
+    }
+
+    fn ask(&self, side: Side, limit: i64) -> io::Result<()> {
+        println!(self.rt; "  an order to {side}, limit {}", Price(limit))?;
+        match permitted_range(&self.market, side, limit) {
+            Ok(range) => show_range(self.rt, range),
+            Err(refusal) => show_refusal(self.rt, refusal),
+        }
+    }
+
+    fn first_quotes(&mut self) -> io::Result<()> {
+        println!(self.rt; "\n2. Nothing is quoted yet, so there is no price to compete with.")?;
+        self.show_market()?;
+        self.ask(Side::Buy, 310)?;
+        println!(self.rt; "\n3. The legs are quoted. They show prices once every leg is.")?;
+        self.quote_leg(1, 500, 505)?;
+        self.show_legs()?;
+        self.quote_leg(2, 100, 104)?;
+        self.show_legs()?;
+        println!(self.rt; "\n4. The complex book bids, and offers nothing.")?;
+        self.quote_book(Some(293), None)?;
+        self.show_pile()
+    }
+
+    fn orders(&self) -> io::Result<()> {
+        println!(self.rt;
+            "\n5. An order to buy may trade from the CUBE bid up to the lower of its limit and the CUBE offer."
+        )?;
+        self.ask(Side::Buy, 310)?;
+        self.ask(Side::Buy, 300)?;
+        println!(self.rt;
+            "\n6. An order to sell may trade from the CUBE offer down to the higher of its limit and the CUBE bid."
+        )?;
+        self.ask(Side::Sell, 290)?;
+        println!(self.rt; "\n7. A limit that the market has left behind permits nothing.")?;
+        self.ask(Side::Buy, 293)
+    }
+
+    fn moves(&mut self) -> io::Result<()> {
+        println!(self.rt; "\n8. A leg's quote moves, and the range follows.")?;
+        self.quote_leg(1, 503, 506)?;
+        self.show_pile()?;
+        self.ask(Side::Buy, 310)?;
+        self.ask(Side::Sell, 290)
+    }
+
+    fn faults(&mut self) -> io::Result<()> {
+        println!(self.rt; "\n9. Quotes that cannot be are refused, and nothing moves.")?;
+        self.quote_leg(2, 104, 104)?;
+        self.quote_leg(3, 100, 104)?;
+        self.quote_leg(1, 500, 1_000_001)?;
+        self.quote_book(Some(295), Some(295))?;
+        self.quote_book(None, Some(40_000_001))?;
+        self.show_market()
     }
 }
 
-fn first_quotes(rt: &HostRuntime, market: &mut CubeMarket) -> io::Result<()> {
-    println!(rt; "\n2. Nothing is quoted yet, so there is no price to compete with.")?;
-    show(rt, "CUBE market", market.shown())?;
-    ask(rt, market, Side::Buy, 310)?;
-    println!(rt; "\n3. The legs are quoted. They show prices once every leg is.")?;
-    quote_leg(rt, market, 1, 500, 505)?;
-    show(rt, "legs", market.right().inner().shown())?;
-    quote_leg(rt, market, 2, 100, 104)?;
-    show(rt, "legs", market.right().inner().shown())?;
-    println!(rt; "\n4. The complex book bids, and offers nothing.")?;
-    quote_book(
-        rt,
-        market,
-        Quote {
-            bid: Some(293),
-            offer: None,
-        },
-    )?;
-    show_pile(rt, market)
-}
-
-fn orders(rt: &HostRuntime, market: &CubeMarket) -> io::Result<()> {
-    println!(rt;
-        "\n5. An order to buy may trade from the CUBE bid up to the lower of its limit and the CUBE offer."
-    )?;
-    ask(rt, market, Side::Buy, 310)?;
-    ask(rt, market, Side::Buy, 300)?;
-    println!(rt;
-        "\n6. An order to sell may trade from the CUBE offer down to the higher of its limit and the CUBE bid."
-    )?;
-    ask(rt, market, Side::Sell, 290)?;
-    println!(rt; "\n7. A limit that the market has left behind permits nothing.")?;
-    ask(rt, market, Side::Buy, 293)
-}
-
-fn moves(rt: &HostRuntime, market: &mut CubeMarket) -> io::Result<()> {
-    println!(rt; "\n8. A leg's quote moves, and the range follows.")?;
-    quote_leg(rt, market, 1, 503, 506)?;
-    show_pile(rt, market)?;
-    ask(rt, market, Side::Buy, 310)?;
-    ask(rt, market, Side::Sell, 290)
-}
-
-fn faults(rt: &HostRuntime, market: &mut CubeMarket) -> io::Result<()> {
-    println!(rt; "\n9. Quotes that cannot be are refused, and nothing moves.")?;
-    quote_leg(rt, market, 2, 104, 104)?;
-    quote_leg(rt, market, 3, 100, 104)?;
-    quote_leg(rt, market, 1, 500, 1_000_001)?;
-    quote_book(
-        rt,
-        market,
-        Quote {
-            bid: Some(295),
-            offer: Some(295),
-        },
-    )?;
-    quote_book(
-        rt,
-        market,
-        Quote {
-            bid: None,
-            offer: Some(40_000_001),
-        },
-    )?;
-    show(rt, "CUBE market", market.shown())
-}
-
 pub fn narrate(rt: &HostRuntime, legs: Legs) -> io::Result<()> {
-    let mut market = cube_market(legs);
-    first_quotes(rt, &mut market)?;
-    orders(rt, &market)?;
-    moves(rt, &mut market)?;
-    faults(rt, &mut market)?;
-    auctions(rt, &market)
+    let mut narration = Narration {
+        rt,
+        market: cube_market(legs),
+    };
+    narration.first_quotes()?;
+    narration.orders()?;
+    narration.moves()?;
+    narration.faults()?;
+    auctions(rt, &narration.market)
 }

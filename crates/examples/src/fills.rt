@@ -8,16 +8,6 @@ use allocation::response::{Class, Kind, Response};
 use market::side::Side;
 use std::io;
 
-const BLANK: FillRow = FillRow {
-    price: 0,
-    member: 0,
-    own: 0,
-    class: Class::Other,
-    kind: Kind::Plain,
-    filled: 0,
-    left: 0,
-};
-
 fn order(side: Side, size: u32, kind: GuaranteeKind, price: i64) -> PairedOrder {
     PairedOrder {
         side,
@@ -27,260 +17,248 @@ fn order(side: Side, size: u32, kind: GuaranteeKind, price: i64) -> PairedOrder 
     }
 }
 
-// Member, own number, class, size and turned price; the arrival number is the place in the list, from 1.
-type Told = (u8, u8, Class, u32, i64);
-
-fn store_all(auction: &mut Auction, told: &[Told]) -> bool {
-    let mut all = true;
-    let mut arrival = 0u32;
-    for response in told {
-        let (member, own, class, size, price) = *response;
-        arrival = arrival.saturating_add(1);
-        all = auction.store(Response {
-            member,
-            own,
-            kind: Kind::Sealed,
-            class,
-            size,
-            price,
-            arrival,
-        }) && all;
-    }
-    all
+fn bought(size: u32, kind: GuaranteeKind, price: i64) -> PairedOrder {
+    order(Side::Buy, size, kind, price)
 }
 
-fn name_of(row: &FillRow) -> &'static str {
-    match (row.member, row.class) {
-        (0, _) => "contra",
-        (_, Class::Customer) => "customer",
-        (_, Class::Other) => "other",
+// The first response of a member, at a turned price; it gets its arrival number where it is stored.
+fn first_of(member: u8, class: Class, size: u32, price: i64) -> Response {
+    Response {
+        member,
+        own: 1,
+        kind: Kind::Sealed,
+        class,
+        size,
+        price,
+        arrival: 0,
     }
+}
+
+fn customer(member: u8, size: u32, price: i64) -> Response {
+    first_of(member, Class::Customer, size, price)
+}
+
+fn other(member: u8, size: u32, price: i64) -> Response {
+    first_of(member, Class::Other, size, price)
+}
+
+// Whether all may stand; each is stored that may, with its place among them, from 1, as its arrival number.
+fn store_all(auction: &mut Auction, told: &[Response]) -> bool {
+    (1..=u32::MAX)
+        .zip(told)
+        .fold(true, |all, (arrival, response)| {
+            auction.store(Response {
+                arrival,
+                ..*response
+            }) && all
+        })
 }
 
 fn print_rows(rt: &HostRuntime, rows: &[FillRow]) -> io::Result<()> {
     for row in rows {
-        let price = row.price;
-        let name = name_of(row);
-        let member = row.member;
-        let filled = row.filled;
-        let left = row.left;
-        println!(rt; "    {price} {name} {member} filled {filled} left {left}")?;
+        let FillRow {
+            price,
+            member,
+            class,
+            filled,
+            left,
+            ..
+        } = *row;
+        print!(rt; "    {price} ")?;
+        if member == 0 {
+            print!(rt; "contra")?;
+        } else {
+            print!(rt; "{class}")?;
+        }
+        println!(rt; " {member} filled {filled} left {left}")?;
     }
     Ok(())
 }
 
 // The fill list, and that the row behind it is as it was.
 fn print_fills<R: Ranking>(rt: &HostRuntime, ranking: &R, auction: &Auction) -> io::Result<()> {
-    let mut rows = [BLANK; 130];
+    let mut rows = [FillRow::BLANK; 130];
     rows[129].left = 77;
     match auction.fill(ranking, &mut rows) {
         Ok(count) => {
             let behind = rows[129].left;
             println!(rt; "  {count} rows, and the last place has {behind}")?;
-            print_rows(rt, rows.get(0..count).unwrap_or(&[]))
+            print_rows(rt, rows.get(..count).unwrap_or(&[]))
         }
-        Err(refusal) => {
-            let number = refusal.number();
-            println!(rt; "  refusal {number}")
-        }
+        Err(refusal) => println!(rt; "  refusal {}", refusal.number()),
     }
 }
 
-fn work_one<R: Ranking>(
-    rt: &HostRuntime,
-    title: &str,
-    ranking: &R,
-    order: PairedOrder,
-    floor: i64,
-    initiating: i64,
-    told: &[Told],
-) -> io::Result<()> {
-    println!(rt; "{title}")?;
-    let Some(made) = Auction::new(order, floor, initiating) else {
-        return println!(rt; "  NO AUCTION HAS THESE TERMS");
-    };
-    let mut auction = made;
-    let stored = store_all(&mut auction, told);
-    println!(rt; "  all stored: {stored}")?;
-    print_fills(rt, ranking, &auction)
+// An auction of the order in the range of prices from 294 to 304, which for a sell order are turned.
+fn auction_of(order: PairedOrder) -> Option<Auction> {
+    match order.side {
+        Side::Buy => Auction::new(order, 294, 304),
+        Side::Sell => Auction::new(order, -304, -294),
+    }
 }
 
-const AT_STOP: [Told; 3] = [
-    (2, 1, Class::Customer, 30, 300),
-    (3, 1, Class::Other, 50, 300),
-    (4, 1, Class::Other, 20, 300),
-];
+// An order with the responses to it.
+#[derive(Clone, Copy)]
+struct Case<'a> {
+    title: &'a str,
+    order: PairedOrder,
+    told: &'a [Response],
+}
 
-const ODD: [Told; 3] = [
-    (2, 1, Class::Other, 10, 296),
-    (3, 1, Class::Other, 20, 296),
-    (4, 1, Class::Other, 10, 296),
-];
+impl Case<'_> {
+    fn work<R: Ranking>(&self, rt: &HostRuntime, ranking: &R) -> io::Result<()> {
+        println!(rt; "{}", self.title)?;
+        let Some(mut auction) = auction_of(self.order) else {
+            return println!(rt; "  NO AUCTION HAS THESE TERMS");
+        };
+        let stored = store_all(&mut auction, self.told);
+        println!(rt; "  all stored: {stored}")?;
+        print_fills(rt, ranking, &auction)
+    }
+}
 
-const THREE_ALIKE: [Told; 3] = [
-    (2, 1, Class::Other, 20, 297),
-    (3, 1, Class::Other, 20, 297),
-    (4, 1, Class::Other, 20, 297),
-];
+fn at_stop(rt: &HostRuntime) -> io::Result<()> {
+    let case = Case {
+        title: "stop 300, at it a customer and two others: the contra has 40% of the order, and not of what is left",
+        order: bought(100, GuaranteeKind::SingleStop, 300),
+        told: &[customer(2, 30, 300), other(3, 50, 300), other(4, 20, 300)],
+    };
+    case.work(rt, &EarlierArrival)
+}
 
-const BEYOND: [Told; 3] = [
-    (2, 1, Class::Other, 30, 302),
-    (3, 1, Class::Other, 60, 298),
-    (4, 1, Class::Customer, 10, 301),
-];
+fn odd_contracts(rt: &HostRuntime) -> io::Result<()> {
+    let by_arrival = Case {
+        title: "31 contracts among 10, 20 and 10, by arrival",
+        order: bought(31, GuaranteeKind::SingleStop, 300),
+        told: &[other(2, 10, 296), other(3, 20, 296), other(4, 10, 296)],
+    };
+    by_arrival.work(rt, &EarlierArrival)?;
+    let by_size = Case {
+        title: "the same by size",
+        ..by_arrival
+    };
+    by_size.work(rt, &LargerSize)
+}
 
-const TWO_OF_ONE_FIRM: [Told; 2] = [(2, 1, Class::Other, 60, 298), (2, 2, Class::Other, 10, 298)];
+fn beyond_stop(rt: &HostRuntime) -> io::Result<()> {
+    let case = Case {
+        title: "responses beyond the stop get nothing",
+        order: bought(100, GuaranteeKind::SingleStop, 300),
+        told: &[other(2, 30, 302), other(3, 60, 298), customer(4, 10, 301)],
+    };
+    case.work(rt, &EarlierArrival)
+}
 
-const BELOW_298: [Told; 2] = [(2, 1, Class::Other, 20, 295), (3, 1, Class::Other, 10, 301)];
-
-const MATCHED: [Told; 4] = [
-    (2, 1, Class::Customer, 10, 298),
-    (3, 1, Class::Other, 20, 298),
-    (4, 1, Class::Other, 10, 301),
-    (5, 1, Class::Customer, 100, 304),
-];
-
-const SOLD: [Told; 3] = [
-    (2, 1, Class::Customer, 30, -300),
-    (3, 1, Class::Other, 50, -300),
-    (4, 1, Class::Other, 20, -302),
-];
+fn one_firm(rt: &HostRuntime) -> io::Result<()> {
+    let first = other(2, 60, 298);
+    let second = Response {
+        own: 2,
+        ..other(2, 10, 298)
+    };
+    let two = Case {
+        title: "40%, and not 50%, with two responses of one firm",
+        order: bought(99, GuaranteeKind::SingleStop, 298),
+        told: &[first, second],
+    };
+    two.work(rt, &EarlierArrival)?;
+    let one = Case {
+        title: "50% with one response",
+        told: &[first],
+        ..two
+    };
+    one.work(rt, &EarlierArrival)
+}
 
 fn stops(rt: &HostRuntime) -> io::Result<()> {
-    let stop = GuaranteeKind::SingleStop;
-    let early = EarlierArrival;
-    let large = LargerSize;
-    let hundred = order(Side::Buy, 100, stop, 300);
-    work_one(
-        rt,
-        "stop 300, at it a customer and two others: the contra has 40% of the order, and not of what is left",
-        &early,
-        hundred,
-        294,
-        304,
-        &AT_STOP,
-    )?;
-    work_one(
-        rt,
-        "31 contracts among 10, 20 and 10, by arrival",
-        &early,
-        order(Side::Buy, 31, stop, 300),
-        294,
-        304,
-        &ODD,
-    )?;
-    work_one(
-        rt,
-        "the same by size",
-        &large,
-        order(Side::Buy, 31, stop, 300),
-        294,
-        304,
-        &ODD,
-    )?;
-    work_one(
-        rt,
-        "responses beyond the stop get nothing",
-        &early,
-        hundred,
-        294,
-        304,
-        &BEYOND,
-    )?;
-    work_one(
-        rt,
-        "40%, and not 50%, with two responses of one firm",
-        &early,
-        order(Side::Buy, 99, stop, 298),
-        294,
-        304,
-        &TWO_OF_ONE_FIRM,
-    )?;
-    work_one(
-        rt,
-        "50% with one response",
-        &early,
-        order(Side::Buy, 99, stop, 298),
-        294,
-        304,
-        &TWO_OF_ONE_FIRM[0..1],
-    )
+    at_stop(rt)?;
+    odd_contracts(rt)?;
+    beyond_stop(rt)?;
+    one_firm(rt)
+}
+
+fn matched(rt: &HostRuntime) -> io::Result<()> {
+    let case = Case {
+        title: "auto-match limit 298, customers and others",
+        order: bought(100, GuaranteeKind::AutoMatchLimit, 298),
+        told: &[
+            customer(2, 10, 298),
+            other(3, 20, 298),
+            other(4, 10, 301),
+            customer(5, 100, 304),
+        ],
+    };
+    case.work(rt, &EarlierArrival)
+}
+
+fn below_floor(rt: &HostRuntime) -> io::Result<()> {
+    let case = Case {
+        title: "auto-match limit 290, below a floor that has risen to 294: matched from the floor on",
+        order: bought(100, GuaranteeKind::AutoMatchLimit, 290),
+        told: &[other(2, 20, 295), other(3, 10, 301)],
+    };
+    case.work(rt, &EarlierArrival)
+}
+
+fn sold(rt: &HostRuntime) -> io::Result<()> {
+    let case = Case {
+        title: "a sell order: prices are not turned",
+        order: order(Side::Sell, 100, GuaranteeKind::SingleStop, -300),
+        told: &[
+            customer(2, 30, -300),
+            other(3, 50, -300),
+            other(4, 20, -302),
+        ],
+    };
+    case.work(rt, &EarlierArrival)
 }
 
 fn matches(rt: &HostRuntime) -> io::Result<()> {
-    let limit = GuaranteeKind::AutoMatchLimit;
-    let early = EarlierArrival;
-    let hundred = order(Side::Buy, 100, limit, 298);
-    work_one(
-        rt,
-        "auto-match limit 298, customers and others",
-        &early,
-        hundred,
-        294,
-        304,
-        &MATCHED,
-    )?;
-    work_one(
-        rt,
-        "auto-match limit 290, below a floor that has risen to 294: matched from the floor on",
-        &early,
-        order(Side::Buy, 100, limit, 290),
-        294,
-        304,
-        &BELOW_298,
-    )?;
-    work_one(
-        rt,
-        "a sell order: prices are not turned",
-        &early,
-        order(Side::Sell, 100, GuaranteeKind::SingleStop, -300),
-        -304,
-        -294,
-        &SOLD,
-    )
+    matched(rt)?;
+    below_floor(rt)?;
+    sold(rt)
 }
 
 fn edges(rt: &HostRuntime) -> io::Result<()> {
-    let stop = GuaranteeKind::SingleStop;
     println!(rt;
         "no auction has a stop below its floor, a guarantee above the initiating price, or no size"
     )?;
-    let below = Auction::new(order(Side::Buy, 100, stop, 293), 294, 304).is_none();
-    let above = Auction::new(order(Side::Buy, 100, stop, 305), 294, 304).is_none();
-    let empty = Auction::new(order(Side::Buy, 0, stop, 300), 294, 304).is_none();
+    let has_none = |size, price| {
+        auction_of(bought(size, GuaranteeKind::SingleStop, price)).is_none()
+    };
+    let below = has_none(100, 293);
+    let above = has_none(100, 305);
+    let empty = has_none(0, 300);
     println!(rt; "  {below} {above} {empty}")
+}
+
+// The response number `i` of 64, counted from 0: each of 16 members has four, each at its own price.
+fn one_of_64(i: u8) -> Response {
+    Response {
+        member: i / 4 + 1,
+        own: i % 4 + 1,
+        kind: Kind::Plain,
+        class: Class::Other,
+        size: 1,
+        price: 200 + i64::from(i),
+        arrival: u32::from(i) + 1,
+    }
 }
 
 // 64 responses at 64 prices below the initiating price, each matched by the contra, which then cleans up.
 fn full_table() -> Option<Auction> {
     let mut auction = Auction::new(
-        order(Side::Buy, 100_000, GuaranteeKind::AutoMatchLimit, 200),
+        bought(100_000, GuaranteeKind::AutoMatchLimit, 200),
         200,
         304,
     )?;
-    for i in 0..64u32 {
-        let response = Response {
-            member: (i / 4 + 1) as u8,
-            own: (i % 4 + 1) as u8,
-            kind: Kind::Plain,
-            class: Class::Other,
-            size: 1,
-            price: 200 + i64::from(i),
-            arrival: i + 1,
-        };
-        if !auction.store(response) {
-            return None;
-        }
-    }
-    Some(auction)
+    (0..64)
+        .all(|i| auction.store(one_of_64(i)))
+        .then_some(auction)
 }
 
 fn added(rows: &[FillRow]) -> u32 {
-    let mut sum = 0u32;
-    for row in rows {
-        sum = sum.saturating_add(row.filled);
-    }
-    sum
+    rows.iter()
+        .fold(0, |sum: u32, row| sum.saturating_add(row.filled))
 }
 
 fn lengths(rt: &HostRuntime) -> io::Result<()> {
@@ -288,7 +266,7 @@ fn lengths(rt: &HostRuntime) -> io::Result<()> {
     let Some(auction) = full_table() else {
         return println!(rt; "  NOT ALL STORED");
     };
-    let mut short = [BLANK; 128];
+    let mut short = [FillRow::BLANK; 128];
     match auction.fill(&EarlierArrival, &mut short) {
         Ok(_) => println!(rt; "  ACCEPTED")?,
         Err(refusal) => {
@@ -297,7 +275,7 @@ fn lengths(rt: &HostRuntime) -> io::Result<()> {
             println!(rt; "  in 128 rows: refusal {number}, and {written} written")?;
         }
     }
-    let mut rows = [BLANK; 129];
+    let mut rows = [FillRow::BLANK; 129];
     match auction.fill(&EarlierArrival, &mut rows) {
         Ok(count) => {
             let all = added(&rows);
@@ -311,15 +289,11 @@ fn lengths(rt: &HostRuntime) -> io::Result<()> {
 // stand is refused, and nothing changes.
 fn changes(rt: &HostRuntime) -> io::Result<()> {
     println!(rt; "30 contracts among 20, 20 and 20: one is changed, one withdrawn")?;
-    let Some(made) = Auction::new(
-        order(Side::Buy, 30, GuaranteeKind::SingleStop, 300),
-        294,
-        304,
-    ) else {
+    let Some(mut auction) = auction_of(bought(30, GuaranteeKind::SingleStop, 300)) else {
         return println!(rt; "  NO AUCTION HAS THESE TERMS");
     };
-    let mut auction = made;
-    let stored = store_all(&mut auction, &THREE_ALIKE);
+    let three_alike = [2, 3, 4].map(|member| other(member, 20, 297));
+    let stored = store_all(&mut auction, &three_alike);
     let changed = auction.change(2, 1, 21, 297, 4);
     let missing = auction.change(5, 1, 21, 297, 5);
     let above = auction.change(3, 1, 20, 305, 6);

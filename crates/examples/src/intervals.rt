@@ -15,20 +15,13 @@ fn draw_three<S: IntervalSource>(rt: &HostRuntime, source: &mut S) -> io::Result
 
 pub fn work(rt: &HostRuntime) -> io::Result<()> {
     println!(rt; "interval sources")?;
-    for length in &LENGTHS {
+    for length in LENGTHS {
         print!(rt; "  fixed {length}: ")?;
-        match FixedInterval::new(*length) {
-            Ok(made) => {
-                let mut source = made;
-                draw_three(rt, &mut source)?;
-            }
-            Err(refusal) => {
-                let number = refusal.number();
-                println!(rt; "refusal {number}")?;
-            }
+        match FixedInterval::new(length) {
+            Ok(mut source) => draw_three(rt, &mut source)?,
+            Err(refusal) => println!(rt; "refusal {}", refusal.number())?,
         }
     }
     print!(rt; "  stepping from 1: ")?;
-    let mut source = SteppingInterval::new(1);
-    draw_three(rt, &mut source)
+    draw_three(rt, &mut SteppingInterval::new(1))
 }

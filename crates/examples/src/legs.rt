@@ -1,119 +1,122 @@
 // Making a strategy, and how far its prices go.
+use crate::answer::{print_answer, verdict};
 use market::improve::Improve;
 use market::legs::Legs;
 use market::legs::leg::{LegQuote, LegTerms, LegTick};
 use market::market::Market;
+use market::quote::Quote;
 use market::refusal::SetupRefusal;
 use market::side::Side;
 use std::io;
 
-fn print_number(rt: &HostRuntime, answer: Result<(), SetupRefusal>, want: u8) -> io::Result<()> {
-    let number = match answer {
-        Ok(()) => 0,
-        Err(refusal) => refusal.number(),
-    };
-    let verdict = if number == want {
-        ""
-    } else {
-        " NOT AS THE RULES HAVE IT"
-    };
-    if number == 0 {
-        println!(rt; "accepted{verdict}")
-    } else {
-        println!(rt; "refusal {number}{verdict}")
-    }
-}
-
-fn made(side: Side, first: u8, second: u8) -> Result<(), SetupRefusal> {
+// Buy one of the first leg and sell two of the second.
+pub fn one_against_two() -> Result<Legs, SetupRefusal> {
     Legs::new(
-        LegTerms { side, ratio: first },
         LegTerms {
-            side,
-            ratio: second,
+            side: Side::Buy,
+            ratio: 1,
         },
-    )?;
-    Ok(())
+        LegTerms {
+            side: Side::Sell,
+            ratio: 2,
+        },
+    )
 }
 
-const RATIOS: [(u8, u8, u8); 6] = [
-    (1, 9, 0),
-    (9, 1, 0),
-    (0, 1, 9),
-    (1, 0, 9),
-    (10, 1, 9),
-    (1, 10, 9),
+const RATIO_OR_STEP: Result<(), SetupRefusal> = Err(SetupRefusal::RatioOrStep);
+
+const FIFTH_LEG: Result<(), SetupRefusal> = Err(SetupRefusal::FifthLeg);
+
+// The ratios of two legs, and the answer that comes.
+const RATIOS: [(u8, u8, Result<(), SetupRefusal>); 6] = [
+    (1, 9, Ok(())),
+    (9, 1, Ok(())),
+    (0, 1, RATIO_OR_STEP),
+    (1, 0, RATIO_OR_STEP),
+    (10, 1, RATIO_OR_STEP),
+    (1, 10, RATIO_OR_STEP),
 ];
 
 fn work_ratios(rt: &HostRuntime) -> io::Result<()> {
-    for case in &RATIOS {
-        let (first, second, want) = *case;
+    let bought = |ratio| LegTerms {
+        side: Side::Buy,
+        ratio,
+    };
+    for (first, second, want) in RATIOS {
         print!(rt; "  legs of ratios {first} and {second}: ")?;
-        print_number(rt, made(Side::Buy, first, second), want)?;
+        let got = Legs::new(bought(first), bought(second)).map(|_| ());
+        print_answer(rt, &got, &want)?;
     }
     Ok(())
 }
 
-// Legs added one after another to a strategy of two; a refused one is not there.
-const ADDED: [(u8, u8); 6] = [(0, 9), (9, 0), (10, 9), (9, 0), (9, 10), (0, 9)];
+// The ratios of legs added one after another to a strategy of two; a refused one is not there.
+const ADDED: [(u8, Result<(), SetupRefusal>); 6] = [
+    (0, RATIO_OR_STEP),
+    (9, Ok(())),
+    (10, RATIO_OR_STEP),
+    (9, Ok(())),
+    (9, FIFTH_LEG),
+    (0, RATIO_OR_STEP),
+];
 
 fn work_added(rt: &HostRuntime, legs: &mut Legs, side: Side) -> io::Result<()> {
-    for case in &ADDED {
-        let (ratio, want) = *case;
+    for (ratio, want) in ADDED {
         print!(rt; "  one leg more, of ratio {ratio}: ")?;
-        print_number(rt, legs.add(LegTerms { side, ratio }), want)?;
+        print_answer(rt, &legs.add(LegTerms { side, ratio }), &want)?;
     }
     Ok(())
 }
 
-fn quote_all(legs: &mut Legs, bid: i64, offer: i64) -> bool {
-    let mut all = true;
-    for leg in 1..5 {
-        all = legs
-            .tick(LegTick {
-                leg,
-                quote: LegQuote { bid, offer },
-            })
-            .is_ok()
-            && all;
-    }
-    all
+// Each of four legs is quoted so, also where an earlier one is refused.
+fn quote_all(legs: &mut Legs, quote: LegQuote) -> bool {
+    (1..5).fold(true, |all, leg| {
+        legs.tick(LegTick { leg, quote }).is_ok() && all
+    })
 }
 
-fn work_extremes(rt: &HostRuntime, side: Side, name: &str, want: (i64, i64)) -> io::Result<()> {
+fn work_extremes(rt: &HostRuntime, side: Side, name: &str, want: Quote) -> io::Result<()> {
     let terms = LegTerms { side, ratio: 9 };
-    let Ok(made) = Legs::new(terms, terms) else {
+    let Ok(mut legs) = Legs::new(terms, terms) else {
         return println!(rt; "THE LEGS ARE REFUSED");
     };
-    let mut legs = made;
     work_added(rt, &mut legs, side)?;
-    let told = quote_all(&mut legs, 999_999, 1_000_000);
+    let told = quote_all(
+        &mut legs,
+        LegQuote {
+            bid: 999_999,
+            offer: 1_000_000,
+        },
+    );
     let shown = legs.shown();
-    match (shown.bid, shown.offer) {
-        (Some(bid), Some(offer)) => {
-            let verdict = if bid == want.0 && offer == want.1 {
-                ""
-            } else {
-                " NOT AS THE RULES HAVE IT"
-            };
-            println!(rt;
-                "  four {name} legs of ratio 9 at 999999 and 1000000 (accepted: {told}) show {bid} and {offer}{verdict}"
-            )
-        }
-        _ => println!(rt; "  FOUR QUOTED LEGS SHOW NO PRICE"),
-    }
+    let Quote {
+        bid: Some(bid),
+        offer: Some(offer),
+    } = shown
+    else {
+        return println!(rt; "  FOUR QUOTED LEGS SHOW NO PRICE");
+    };
+    let verdict = verdict(&shown, &want);
+    println!(rt;
+        "  four {name} legs of ratio 9 at 999999 and 1000000 (accepted: {told}) show {bid} and {offer}{verdict}"
+    )
 }
 
-const STEPS: [(u8, u8); 5] = [(0, 9), (1, 0), (9, 0), (10, 9), (255, 9)];
+const STEPS: [(u8, Result<(), SetupRefusal>); 5] = [
+    (0, RATIO_OR_STEP),
+    (1, Ok(())),
+    (9, Ok(())),
+    (10, RATIO_OR_STEP),
+    (255, RATIO_OR_STEP),
+];
 
 fn work_steps(rt: &HostRuntime, legs: Legs) -> io::Result<()> {
-    for case in &STEPS {
-        let (step, want) = *case;
+    for (step, want) in STEPS {
         print!(rt; "  an improvement by {step}: ")?;
-        let answer = match Improve::new(legs, step) {
-            Ok(_) => Ok(()),
-            Err(back) => Err(back.0),
-        };
-        print_number(rt, answer, want)?;
+        let got = Improve::new(legs, step)
+            .map(|_| ())
+            .map_err(|(refusal, _)| refusal);
+        print_answer(rt, &got, &want)?;
     }
     Ok(())
 }
@@ -121,8 +124,24 @@ fn work_steps(rt: &HostRuntime, legs: Legs) -> io::Result<()> {
 pub fn work(rt: &HostRuntime) -> io::Result<()> {
     println!(rt; "strategies")?;
     work_ratios(rt)?;
-    work_extremes(rt, Side::Buy, "bought", (35_999_964, 36_000_000))?;
-    work_extremes(rt, Side::Sell, "sold", (-36_000_000, -35_999_964))?;
+    work_extremes(
+        rt,
+        Side::Buy,
+        "bought",
+        Quote {
+            bid: Some(35_999_964),
+            offer: Some(36_000_000),
+        },
+    )?;
+    work_extremes(
+        rt,
+        Side::Sell,
+        "sold",
+        Quote {
+            bid: Some(-36_000_000),
+            offer: Some(-35_999_964),
+        },
+    )?;
     let terms = LegTerms {
         side: Side::Buy,
         ratio: 1,

@@ -1,6 +1,7 @@
 // Worked figures that are no theorems: each is computed by the library and held to what the rules give.
 #![tactic(auto)]
 
+mod answer;
 mod fills;
 mod intervals;
 mod legs;

@@ -1,114 +1,94 @@
 // Quotes that are refused: the cause and the place, in their order.
-use market::fault::Fault;
+use crate::answer::{bid, offer, print_answer};
+use crate::legs::one_against_two;
+use market::fault::{Cause, Fault};
 use market::legs::Legs;
-use market::legs::leg::{LegQuote, LegTerms, LegTick};
+use market::legs::leg::{LegQuote, LegTick};
 use market::market::Market;
 use market::quote::Quote;
-use market::side::Side;
 use market::touch::Touch;
 use std::io;
 
-fn print_answer(rt: &HostRuntime, answer: Result<(), Fault>, want: (u8, u32)) -> io::Result<()> {
-    let got = match answer {
-        Ok(()) => (0, 0),
-        Err(fault) => (fault.cause.number(), fault.place),
-    };
-    let (cause, place) = got;
-    let verdict = if got.0 == want.0 && got.1 == want.1 {
-        ""
-    } else {
-        " NOT AS THE RULES HAVE IT"
-    };
-    if cause == 0 {
-        println!(rt; "accepted{verdict}")
-    } else {
-        println!(rt; "cause {cause}, place {place}{verdict}")
+// A tick, and the answer that comes.
+#[derive(Clone, Copy)]
+struct Case<T> {
+    tick: T,
+    want: Result<(), Fault>,
+}
+
+fn refused(cause: Cause, place: u32) -> Result<(), Fault> {
+    Err(Fault { cause, place })
+}
+
+fn leg(leg: u32, bid: i64, offer: i64, want: Result<(), Fault>) -> Case<LegTick> {
+    Case {
+        tick: LegTick {
+            leg,
+            quote: LegQuote { bid, offer },
+        },
+        want,
     }
 }
 
-// A leg number, a bid and an offer, and the cause and place that come; 0 and 0 where they are accepted.
-const LEG_QUOTES: [(u32, i64, i64, u8, u32); 12] = [
-    (1, 0, 1, 0, 0),
-    (2, 999_999, 1_000_000, 0, 0),
-    (0, 100, 104, 1, 0),
-    (3, 100, 104, 1, 3),
-    (3, -1, -2, 1, 3),
-    (1, -1, 104, 2, 1),
-    (1, -1, -1, 2, 1),
-    (2, 100, 1_000_001, 2, 2),
-    (2, 1_000_001, 104, 2, 2),
-    (1, 104, 104, 3, 1),
-    (2, 105, 104, 3, 2),
-    (2, i64::MIN, i64::MAX, 2, 2),
-];
-
 fn work_legs(rt: &HostRuntime, legs: &mut Legs) -> io::Result<()> {
-    for case in &LEG_QUOTES {
-        let (leg, bid, offer, cause, place) = *case;
-        print!(rt; "  leg {leg} at {bid} and {offer}: ")?;
-        print_answer(
-            rt,
-            legs.tick(LegTick {
-                leg,
-                quote: LegQuote { bid, offer },
-            }),
-            (cause, place),
-        )?;
+    let cases = [
+        leg(1, 0, 1, Ok(())),
+        leg(2, 999_999, 1_000_000, Ok(())),
+        leg(0, 100, 104, refused(Cause::NoSuchLeg, 0)),
+        leg(3, 100, 104, refused(Cause::NoSuchLeg, 3)),
+        leg(3, -1, -2, refused(Cause::NoSuchLeg, 3)),
+        leg(1, -1, 104, refused(Cause::BeyondLimit, 1)),
+        leg(1, -1, -1, refused(Cause::BeyondLimit, 1)),
+        leg(2, 100, 1_000_001, refused(Cause::BeyondLimit, 2)),
+        leg(2, 1_000_001, 104, refused(Cause::BeyondLimit, 2)),
+        leg(1, 104, 104, refused(Cause::BidNotBelowOffer, 1)),
+        leg(2, 105, 104, refused(Cause::BidNotBelowOffer, 2)),
+        leg(2, i64::MIN, i64::MAX, refused(Cause::BeyondLimit, 2)),
+    ];
+    for Case { tick, want } in cases {
+        let LegTick { leg, quote } = tick;
+        print!(rt; "  leg {leg} at {} and {}: ", quote.bid, quote.offer)?;
+        print_answer(rt, &legs.tick(tick), &want)?;
     }
     Ok(())
 }
 
-const BOOK_QUOTES: [(Option<i64>, Option<i64>, u8, u32); 10] = [
-    (Some(293), None, 0, 0),
-    (None, None, 0, 0),
-    (Some(-40_000_000), Some(40_000_000), 0, 0),
-    (Some(-40_000_001), None, 2, 0),
-    (Some(40_000_001), Some(40_000_001), 2, 0),
-    (None, Some(40_000_001), 2, 1),
-    (Some(0), Some(-40_000_001), 2, 1),
-    (Some(293), Some(293), 3, 0),
-    (Some(294), Some(293), 3, 0),
-    (Some(i64::MIN), Some(i64::MIN), 2, 0),
-];
-
-fn print_side(rt: &HostRuntime, name: &str, price: Option<i64>) -> io::Result<()> {
-    match price {
-        None => print!(rt; " no {name}"),
-        Some(cents) => print!(rt; " {name} {cents}"),
+fn book(bid: Option<i64>, offer: Option<i64>, want: Result<(), Fault>) -> Case<Quote> {
+    Case {
+        tick: Quote { bid, offer },
+        want,
     }
 }
 
-fn work_book(rt: &HostRuntime, book: &mut Touch) -> io::Result<()> {
-    for case in &BOOK_QUOTES {
-        let (bid, offer, cause, place) = *case;
-        print!(rt; "  book")?;
-        print_side(rt, "bid", bid)?;
-        print_side(rt, "offer", offer)?;
-        print!(rt; ": ")?;
-        print_answer(rt, book.tick(Quote { bid, offer }), (cause, place))?;
+fn work_book(rt: &HostRuntime, touch: &mut Touch) -> io::Result<()> {
+    let beyond_bid = refused(Cause::BeyondLimit, 0);
+    let beyond_offer = refused(Cause::BeyondLimit, 1);
+    let not_below = refused(Cause::BidNotBelowOffer, 0);
+    let cases = [
+        book(Some(293), None, Ok(())),
+        book(None, None, Ok(())),
+        book(Some(-40_000_000), Some(40_000_000), Ok(())),
+        book(Some(-40_000_001), None, beyond_bid),
+        book(Some(40_000_001), Some(40_000_001), beyond_bid),
+        book(None, Some(40_000_001), beyond_offer),
+        book(Some(0), Some(-40_000_001), beyond_offer),
+        book(Some(293), Some(293), not_below),
+        book(Some(294), Some(293), not_below),
+        book(Some(i64::MIN), Some(i64::MIN), beyond_bid),
+    ];
+    for Case { tick, want } in cases {
+        print!(rt; "  book {} {}: ", bid(tick.bid), offer(tick.offer))?;
+        print_answer(rt, &touch.tick(tick), &want)?;
     }
     Ok(())
 }
 
 pub fn work(rt: &HostRuntime) -> io::Result<()> {
     println!(rt; "quotes for two legs")?;
-    match Legs::new(
-        LegTerms {
-            side: Side::Buy,
-            ratio: 1,
-        },
-        LegTerms {
-            side: Side::Sell,
-            ratio: 2,
-        },
-    ) {
-        Ok(legs) => {
-            let mut legs = legs;
-            work_legs(rt, &mut legs)?;
-        }
+    match one_against_two() {
+        Ok(mut legs) => work_legs(rt, &mut legs)?,
         Err(_) => println!(rt; "THE LEGS ARE REFUSED")?,
     }
     println!(rt; "quotes for a book")?;
-    let mut book = Touch::new();
-    work_book(rt, &mut book)
+    work_book(rt, &mut Touch::new())
 }

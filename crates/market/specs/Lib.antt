@@ -16,3 +16,4 @@ pub mod Range
 pub mod RangeLaws
 pub mod BetterOfMarketLemmas
 pub mod LegsBounded
+pub mod Names

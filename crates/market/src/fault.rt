@@ -4,9 +4,9 @@ ghost use Rattle.market.specs.Faults.{cause_number};
 
 #[derive(Clone, Copy, PartialEq, Eq, Debug)]
 pub enum Cause {
-    NoSuchLeg,
-    BeyondLimit,
-    BidNotBelowOffer,
+    NoSuchLeg = 1,
+    BeyondLimit = 2,
+    BidNotBelowOffer = 3,
 }
 
 impl Cause {
@@ -14,11 +14,7 @@ impl Cause {
     pub fn number(self) -> u8
         ensures { result ≡ cause_number self }
     {
-        match self {
-            Cause::NoSuchLeg => 1,
-            Cause::BeyondLimit => 2,
-            Cause::BidNotBelowOffer => 3,
-        }
+        self as u8
     }
 }
 

@@ -7,7 +7,7 @@ pub mod fault;
 pub mod improve;
 pub mod legs;
 pub mod market;
-mod prices;
+pub mod prices;
 pub mod quote;
 pub mod range;
 pub mod refusal;

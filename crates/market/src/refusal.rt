@@ -5,37 +5,30 @@ ghost use Rattle.market.specs.Refusals.{setup_number, range_number};
 // A market that cannot be made as asked.
 #[derive(Clone, Copy, PartialEq, Eq, Debug)]
 pub enum SetupRefusal {
-    RatioOrStep,
-    FifthLeg,
+    RatioOrStep = 9,
+    FifthLeg = 10,
 }
 
 impl SetupRefusal {
     pub fn number(self) -> u8
         ensures { result ≡ setup_number self }
     {
-        match self {
-            SetupRefusal::RatioOrStep => 9,
-            SetupRefusal::FifthLeg => 10,
-        }
+        self as u8 // 9 or 10
     }
 }
 
 // An order that has no permitted range.
 #[derive(Clone, Copy, PartialEq, Eq, Debug)]
 pub enum RangeRefusal {
-    PriceOutsideLimits,
-    SideShowsNoPrice,
-    InitiatingBelowFloor,
+    PriceOutsideLimits = 2,
+    SideShowsNoPrice = 14,
+    InitiatingBelowFloor = 15,
 }
 
 impl RangeRefusal {
     pub fn number(self) -> u8
         ensures { result ≡ range_number self }
     {
-        match self {
-            RangeRefusal::PriceOutsideLimits => 2,
-            RangeRefusal::SideShowsNoPrice => 14,
-            RangeRefusal::InitiatingBelowFloor => 15,
-        }
+        self as u8 // 2, 14 or 15
     }
 }

@@ -1,10 +1,14 @@
 // The side of an order or of a leg.
 ghost use Rattle.std.specs.Prelude.{◌≡◌, true, Some};
+ghost use Rattle.std.specs.Fmt.{padded};
 ghost use Rattle.std.specs.Int.{saturate_to_bits};
 ghost use Rattle.market.specs.Prices.{showable};
 ghost use Rattle.market.specs.Turned.{turned};
+ghost use Rattle.market.specs.Names.{side_name};
 
-#[derive(Clone, Copy)]
+use std::fmt;
+
+#[derive(Clone, Copy, PartialEq, Eq, Debug)]
 pub enum Side {
     Buy,
     Sell,
@@ -28,5 +32,19 @@ impl Side {
         ensures { result ≡ turned self price }
     {
         self.turn(price)
+    }
+}
+
+// The name of the side of an order: "buy" or "sell".
+impl fmt::Display for Side {
+    ghost output = { λ side. Some (side_name side) };
+
+    ghost styled_output = { λ side style. Some (padded style (side_name side)) };
+
+    fn fmt<W: fmt::Write>(&self, f: &mut fmt::Formatter<W>) -> fmt::Result {
+        f.pad(match self {
+            Side::Buy => "buy",
+            Side::Sell => "sell",
+        })
     }
 }

@@ -11,7 +11,7 @@ ghost use Rattle.allocation.specs.Table.{standing};
 
 use super::Auction;
 use crate::arrange::arrange;
-use crate::fill::FillRow;
+use crate::fill::{FillRow, LEAST_ROWS};
 use crate::order::ContraTerms;
 use crate::ranking::Ranking;
 use crate::refusal::FillRefusal;
@@ -19,9 +19,6 @@ use crate::response::Response;
 use crate::split::guaranteed_share;
 use crate::walk::fill_levels;
 use market::side::Side;
-
-// The fewest rows that hold every fill list: one for each of 64 responses, and one for the contra at each of 65 prices.
-const LEAST_ROWS: usize = 129;
 
 // Arranges the responses and writes the rows of all their levels.
 fn share_out<R: Ranking>(

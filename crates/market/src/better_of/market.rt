@@ -29,24 +29,6 @@ fn lower_of(x: Option<i64>, y: Option<i64>) -> Option<i64>
     }
 }
 
-fn in_left<E>(answer: Result<(), E>) -> Result<(), InLeft<E>>
-    ensures { result ≡ fault_by (λ e. record { fault = e }) answer }
-{
-    match answer {
-        Ok(()) => Ok(()),
-        Err(fault) => Err(InLeft { fault }),
-    }
-}
-
-fn in_right<E>(answer: Result<(), E>) -> Result<(), InRight<E>>
-    ensures { result ≡ fault_by (λ e. record { fault = e }) answer }
-{
-    match answer {
-        Ok(()) => Ok(()),
-        Err(fault) => Err(InRight { fault }),
-    }
-}
-
 impl<X, Y> BetterOf<X, Y> {
     pub fn new(left: X, right: Y) -> Self
         ensures { result ≡ record { left = left; right = right } }
@@ -104,8 +86,8 @@ impl<X: Market, Y: Market> Market for BetterOf<X, Y> {
         ensures next { (X.Market.position self.new.left, Y.Market.position self.new.right) ≡ half_next X.Market.meaning Y.Market.meaning (X.Market.position self.old.left) (Y.Market.position self.old.right) tick }
     {
         match tick {
-            Half::Left(t) => in_left(self.left.tick(t))?,
-            Half::Right(t) => in_right(self.right.tick(t))?,
+            Half::Left(t) => self.left.tick(t).map_err(|fault| InLeft { fault })?,
+            Half::Right(t) => self.right.tick(t).map_err(|fault| InRight { fault })?,
         }
         Ok(())
     }

@@ -16,10 +16,7 @@ fn raised(price: Option<i64>, step: u8) -> Option<i64>
     requires step { step ≤ 9 }
     ensures { result ≡ raised_bid step price }
 {
-    match price {
-        None => None,
-        Some(z) => Some((z + i64::from(step)).clamp(-MOST_SHOWN, MOST_SHOWN)),
-    }
+    price.map(|z| (z + i64::from(step)).clamp(-MOST_SHOWN, MOST_SHOWN))
 }
 
 fn lowered(price: Option<i64>, step: u8) -> Option<i64>
@@ -27,10 +24,7 @@ fn lowered(price: Option<i64>, step: u8) -> Option<i64>
     requires step { step ≤ 9 }
     ensures { result ≡ lowered_offer step price }
 {
-    match price {
-        None => None,
-        Some(z) => Some((z - i64::from(step)).clamp(-MOST_SHOWN, MOST_SHOWN)),
-    }
+    price.map(|z| (z - i64::from(step)).clamp(-MOST_SHOWN, MOST_SHOWN))
 }
 
 impl<M> Improve<M> {
@@ -38,7 +32,7 @@ impl<M> Improve<M> {
     pub fn new(market: M, step: u8) -> Result<Improve<M>, (SetupRefusal, M)>
         ensures { improve_parts result ≡ improve_made market step }
     {
-        if step < 1 || step > 9 {
+        if !(1..=9).contains(&step) {
             return Err((SetupRefusal::RatioOrStep, market));
         }
         Ok(Improve {

@@ -11,7 +11,7 @@ use crate::refusal::SetupRefusal;
 fn one_to_nine(ratio: u8) -> bool
     ensures { result ≡ one_to_nine ratio }
 {
-    1 <= ratio && ratio <= 9
+    (1..=9).contains(&ratio)
 }
 
 fn unquoted_leg(terms: LegTerms) -> Leg
@@ -27,10 +27,7 @@ fn unquoted_leg(terms: LegTerms) -> Leg
 fn smaller(leg: Option<Leg>, ratio: u8) -> u8
     ensures { result ≡ smallest_with leg ratio }
 {
-    match leg {
-        None => ratio,
-        Some(l) => l.ratio.min(ratio),
-    }
+    leg.map_or(ratio, |l| l.ratio.min(ratio))
 }
 
 impl Legs {

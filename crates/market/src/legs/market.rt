@@ -19,7 +19,7 @@ const MOST: i64 = 1_000_000;
 fn in_limits(price: i64) -> bool
     ensures { result ≡ leg_price_ok price }
 {
-    0 <= price && price <= MOST
+    (0..=MOST).contains(&price)
 }
 
 // The first fault of a tick for one of so many legs, if it has one.
@@ -27,7 +27,7 @@ fn fault_of(count: u32, tick: LegTick) -> Result<(), Fault>
     ensures { result ≡ tick_answer count tick }
 {
     let place = tick.leg;
-    if place < 1 || place > count {
+    if !(1..=count).contains(&place) {
         return Err(Fault {
             cause: Cause::NoSuchLeg,
             place,
@@ -67,10 +67,7 @@ fn quoted_if_any(leg: Option<Leg>, quote: LegQuote) -> Option<Leg>
     ensures value { result ≡ option_map (quoted quote) leg }
     ensures ok { optional_leg_ok result ≡ true }
 {
-    match leg {
-        None => None,
-        Some(l) => Some(quoted_leg(l, quote)),
-    }
+    leg.map(|l| quoted_leg(l, quote))
 }
 
 impl Legs {

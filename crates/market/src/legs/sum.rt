@@ -47,10 +47,7 @@ fn add(part: Option<i64>, rest: Option<i64>) -> Option<i64>
     requires rest { within 27000000 rest ≡ true }
     ensures { result ≡ plus part rest }
 {
-    match (part, rest) {
-        (Some(a), Some(b)) => Some(a + b),
-        _ => None,
-    }
+    Some(part? + rest?)
 }
 
 // A leg's part on top of a sum, if there is such a leg.

@@ -19,10 +19,7 @@ fn turned_price(side: Side, price: Option<i64>) -> Option<i64>
     ensures value { result ≡ option_map (turned side) price }
     ensures bound { showable result ≡ true }
 {
-    match price {
-        None => None,
-        Some(z) => Some(side.turn_shown(z)),
-    }
+    price.map(|z| side.turn_shown(z))
 }
 
 // What a quote means to an order of a side.
@@ -86,10 +83,11 @@ fn range_faced(side: Side, limit: i64, quote: TurnedQuote) -> Result<PermittedRa
     requires contra { showable quote.contra ≡ true }
     ensures { range_answer result ≡ range_faced side limit quote.floor quote.contra }
 {
-    match (quote.floor, quote.contra) {
-        (Some(floor), Some(contra)) => range_from(side, limit, floor, contra),
-        _ => Err(RangeRefusal::SideShowsNoPrice),
-    }
+    let (floor, contra) = quote
+        .floor
+        .zip(quote.contra)
+        .ok_or(RangeRefusal::SideShowsNoPrice)?;
+    range_from(side, limit, floor, contra)
 }
 
 // Each refusal in its order, or the range.

@@ -15,19 +15,13 @@ use crate::quote::Quote;
 fn inside(price: Option<i64>) -> bool
     ensures { result ≡ in_limits price }
 {
-    match price {
-        None => true,
-        Some(z) => in_limits(z),
-    }
+    price.is_none_or(in_limits)
 }
 
 fn in_order(bid: Option<i64>, offer: Option<i64>) -> bool
     ensures { result ≡ uncrossed bid offer }
 {
-    match (bid, offer) {
-        (Some(b), Some(o)) => b < o,
-        _ => true,
-    }
+    bid.zip(offer).is_none_or(|(b, o)| b < o)
 }
 
 // The first fault of a book's quote, if it has one.
