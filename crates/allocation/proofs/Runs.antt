@@ -1,13 +1,15 @@
 -- Parts of sound responses are sound, and the runs that the code measures are the level at their front.
-use Rattle.std.proofs.Common.{◌≡◌, ℕ, List, take, drop, ℤ, sym, ap, ◌∙◌, subst, arith}
+use Rattle.std.proofs.Common.{◌≡◌, ℕ, cond, List, [], ◌∷◌, take, drop, ℤ, sym, refl, ap, ◌∙◌, subst, arith}
 use Rattle.std.proofs.ByRecursion.{All-take, All-drop}
 use Rattle.std.proofs.lemmas.List.{length-take, length-drop}
+use Rattle.std.specs.List.{prefix_len}
 use Rattle.allocation.specs.declared.order.ContraTerms.{ContraTerms}
+use Rattle.allocation.specs.declared.response.Class.{Class}
 use Rattle.allocation.specs.declared.response.Class.TheVariants.{Customer, Other}
 use Rattle.allocation.specs.declared.response.Response.{Response}
 use Rattle.allocation.specs.declared.split.Split.{Split}
 use Rattle.allocation.specs.FillList.{split_at}
-use Rattle.allocation.specs.LevelSteps.{Sized, Sound, leading, counted_level, front_level}
+use Rattle.allocation.specs.LevelSteps.{Sized, Sound, stands_at, leading, counted_level, front_level}
 use Rattle.allocation.specs.Shares.{sizes, total}
 use Rattle.allocation.specs.Splits.{split}
 
@@ -19,6 +21,13 @@ sound_drop n xs h = (simp length-drop (omega arith), All-drop Sized n xs h.1)
 
 pub sound_at : {xs ys : List Response} → ys ≡ xs → Sound xs → Sound ys
 sound_at {xs} {ys} e h = subst Sound (sym e) h
+
+-- a run at the front is the longest front that stands there
+pub leading_is : (price : ℤ) (class : Class) (xs : List Response) → leading price class xs ≡ prefix_len (stands_at price class) xs
+leading_is price class [] = refl
+leading_is price class (x ∷ xs) =
+    let rest = leading_is price class xs in
+    ap (λ n. cond (stands_at price class x) n 0) (omega arith)
 
 -- The runs that were measured are the level at the front, and the split goes by the sizes that stand there.
 pub plan_is : (t : ContraTerms) (p q : ℤ) (xs front behind second : List Response) (n m a b r so_far : ℕ) (s : Split)

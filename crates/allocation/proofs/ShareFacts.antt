@@ -1,10 +1,14 @@
 -- What the shares of responses come to: in all as many as there are, none above its size, each the part by size rounded
 -- down or one more.
-use Rattle.std.proofs.Common.{◌≡◌, ℕ, suc, ◌+◌, ◌-◌, ◌*◌, ◌/◌, ◌<◌, ◌≤◌, min, leb, ◌⊎◌, List, [], ◌∷◌, length, sym, refl, ap, subst, inl, inr, mul_comm, div-lt_iff_lt-mul, add-mul, lt_of_mul-lt-mul_right, mul-add, div-mul-le_self, le_of_mul-le-mul_right, arith}
+use Rattle.std.proofs.Common.{◌≡◌, ℕ, suc, ◌+◌, ◌-◌, ◌*◌, ◌/◌, ◌<◌, ◌≤◌, min, leb, ◌⊎◌, List, [], ◌∷◌, map, length, sum, sym, refl, ap, ◌∙◌, subst, inl, inr, mul_comm, div-lt_iff_lt-mul, add-mul, lt_of_mul-lt-mul_right, mul-add, div-mul-le_self, le_of_mul-le-mul_right, arith}
 use native.Mathlib.Nat.{lt-div-mul-add, mul-lt-mul_of_pos_left, mul-div_cancel_left}
 use Rattle.std.specs.List.{AllZip, AllByRecursion}
 use Rattle.std.proofs.lemmas.Bool.{leb-true, leb-false, cond_both, cases_lt}
-use Rattle.allocation.specs.Shares.{total, parts_total, dealt, shared}
+use Rattle.std.proofs.lemmas.List.Recursion.{is_sum_by}
+use Rattle.std.proofs.lemmas.List.Sums.{sum-map}
+use Rattle.allocation.specs.declared.response.Response.{Response}
+use Rattle.allocation.specs.LevelSteps.{Sized}
+use Rattle.allocation.specs.Shares.{sizes, total, parts_total, dealt, shared}
 
 -- Shares fs of k contracts among sizes ss.
 pub record Fair (k : ℕ) (ss fs : List ℕ) : Type 0 where
@@ -13,6 +17,17 @@ pub record Fair (k : ℕ) (ss fs : List ℕ) : Type 0 where
   pub none_over : AllZip (λ s f. f ≤ s) ss fs
   pub near : AllZip (λ s f. (f ≡ min k (total ss) * s / total ss) ⊎ (f ≡ min k (total ss) * s / total ss + 1)) ss fs
   pub full : total ss ≤ k → fs ≡ ss
+
+-- the totals, as std adds up
+pub total_is : (ss : List ℕ) → total ss ≡ sum ss
+total_is = is_sum_by total (λ s. s) refl (λ _ _. refl)
+
+pub parts_total_is : (k t : ℕ) (xs : List Response) → parts_total k t (sizes xs) ≡ sum (map (λ (x : Response). k * x.size / t) xs)
+parts_total_is k t xs = is_sum_by (λ ys. parts_total k t (sizes ys)) (λ (x : Response). k * x.size / t) refl (λ _ _. refl) xs ∙ sym (sum-map (λ (x : Response). k * x.size / t) xs)
+
+pub total_most : (xs : List Response) → AllByRecursion Sized xs → total (sizes xs) ≤ 100000 * length xs
+total_most [] h = omega arith
+total_most (x ∷ xs) (s, a) = omega (arith, total_most xs a)
 
 pub length_dealt : (k t odd : ℕ) (ss : List ℕ) → length (dealt k t odd ss) ≡ length ss
 length_dealt k t odd [] = refl

@@ -32,11 +32,7 @@ pub struct LevelPlan {
 fn is_at(response: &Response, place: &Place) -> bool
     ensures { result ≡ stands_at place.now.price place.now.class response.now }
 {
-    match (place.class, response.class) {
-        (Class::Customer, Class::Other) => false,
-        (Class::Other, Class::Customer) => false,
-        _ => response.price == place.price,
-    }
+    response.class == place.class && response.price == place.price
 }
 
 // How many responses at the front stand at this place.
@@ -44,14 +40,10 @@ fn run_length(responses: &[Response], place: &Place) -> usize
     ensures value { result ≡ leading place.now.price place.now.class responses.now }
     ensures most { result ≤ length responses.now }
 {
-    let mut n = 0;
-    for response in responses {
-        if !is_at(response, place) {
-            return n;
-        }
-        n += 1;
-    }
-    n
+    responses
+        .iter()
+        .take_while(|response| is_at(response, place))
+        .count()
 }
 
 // The contra's own price.

@@ -16,32 +16,31 @@ pub(crate) fn total_size(responses: &[Response]) -> u64
     ensures value { result ≡ total (sizes responses.now) }
     ensures most { result ≤ 6400000 }
 {
-    let mut sum: u64 = 0;
-    for response in responses {
-        sum += u64::from(response.size);
-    }
-    sum
+    responses
+        .iter()
+        .map(|response| u64::from(response.size))
+        .sum()
 }
 
 // The whole contracts that fall to a size: its part of `k` by all sizes, rounded down.
 fn whole_part(k: u64, all: u64, size: u32) -> u64
-    requires { (k < all) × ((all ≤ 6400000) × ((1 ≤ size) × (size ≤ 100000))) }
+    requires { (k < all) × (all ≤ 6400000) }
     ensures value { result ≡ k * size / all }
-    ensures below { result < size }
+    ensures below { 1 ≤ size → result < size }
 {
     k * u64::from(size) / all
 }
 
 // These, added up.
 fn whole_parts(k: u64, all: u64, responses: &[Response]) -> u64
-    requires { (Sound responses.now) × ((k < all) × (all ≤ 6400000)) }
+    requires few { length responses.now ≤ 64 }
+    requires short { (k < all) × (all ≤ 6400000) }
     ensures { result ≡ parts_total k all (sizes responses.now) }
 {
-    let mut sum: u64 = 0;
-    for response in responses {
-        sum += whole_part(k, all, response.size);
-    }
-    sum
+    responses
+        .iter()
+        .map(|response| whole_part(k, all, response.size))
+        .sum()
 }
 
 // The row of a response that got so many contracts.
@@ -66,9 +65,8 @@ fn fill_whole(side: Side, responses: &[Response], rows: &mut [FillRow])
     requires { (Sound responses.now) × (length rows.old ≡ length responses.now) }
     ensures { rows.new ≡ class_rows side responses.now (sizes responses.now) }
 {
-    for i in 0..responses.len() {
-        let response = responses[i];
-        rows[i] = row_of(side, &response, response.size);
+    for (i, response) in responses.iter().enumerate() {
+        rows[i] = row_of(side, response, response.size);
     }
 }
 
@@ -77,11 +75,10 @@ fn deal(side: Side, k: u64, all: u64, mut odd: u64, responses: &[Response], rows
     requires { (Sound responses.now) × ((length rows.old ≡ length responses.now) × ((k < all) × (all ≤ 6400000))) }
     ensures { rows.new ≡ class_rows side responses.now (dealt k all odd (sizes responses.now)) }
 {
-    for i in 0..responses.len() {
-        let response = responses[i];
+    for (i, response) in responses.iter().enumerate() {
         let extra = odd.min(1);
         let filled = (whole_part(k, all, response.size) + extra) as u32;
-        rows[i] = row_of(side, &response, filled);
+        rows[i] = row_of(side, response, filled);
         odd -= extra;
     }
 }

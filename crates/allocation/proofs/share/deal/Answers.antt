@@ -8,24 +8,22 @@ use Rattle.allocation.specs.Shares.{sizes, dealt}
 use Rattle.allocation.proofs.Writes.{no_response, write_step, write_end}
 use Rattle.allocation.proofs.share.deal.Goals as goal
 
-pub whole_part-requires : goal.whole_part-requires
-whole_part-requires c =
-    let sized = All-get_or Sized c.args.responses.now c.loop-i.i no_response c.loop-i-test.true c.requires.0.1 in
-    (c.requires.1.1.0, (c.requires.1.1.1, (sized.0, sized.1)))
-
 pub overflow_add-filled : goal.overflow_add-filled
 overflow_add-filled c =
     let sized = All-get_or Sized c.args.responses.now c.loop-i.i no_response c.loop-i-test.true c.requires.0.1 in
+    let less = c.whole_part.ensures.below sized.0 in
     omega arith
 
 pub overflow_cast-filled : goal.overflow_cast-filled
 overflow_cast-filled c =
     let sized = All-get_or Sized c.args.responses.now c.loop-i.i no_response c.loop-i-test.true c.requires.0.1 in
+    let less = c.whole_part.ensures.below sized.0 in
     omega arith
 
 pub row_of-requires : goal.row_of-requires
 row_of-requires c =
     let sized = All-get_or Sized c.args.responses.now c.loop-i.i no_response c.loop-i-test.true c.requires.0.1 in
+    let less = c.whole_part.ensures.below sized.0 in
     record { size = omega arith; price = sized.2 }
 
 pub loop-i-preserved : goal.loop-i-preserved

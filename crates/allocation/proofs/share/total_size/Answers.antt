@@ -1,21 +1,13 @@
-use Rattle.std.proofs.Common.{◌≡◌, ◌+◌, get_or, drop, arith}
-use Rattle.std.proofs.lemmas.List.{at_drop_more, at_drop_all}
-use Rattle.std.proofs.ByRecursion.{All-get_or}
-use Rattle.allocation.specs.LevelSteps.{Sized}
+use Rattle.std.proofs.Common.{◌≡◌, sym, ◌∙◌, arith, rules}
+use Rattle.std.proofs.lemmas.Iterator.{YieldsList-from_slice, YieldsList-from_map}
+use Rattle.std.proofs.lemmas.Iterator.Consumers.{YieldsList-at, sum_from_yields_List}
+use Rattle.allocation.specs.declared.response.Response.{Response}
 use Rattle.allocation.specs.Shares.{sizes, total}
-use Rattle.allocation.proofs.Writes.{no_response}
+use Rattle.allocation.proofs.ShareFacts.{total_is, total_most}
 use Rattle.allocation.proofs.share.total_size.Goals as goal
-
-pub loop-response-preserved : goal.loop-response-preserved
-loop-response-preserved c =
-    let xs = c.args.responses.now in
-    let i = c.loop-response.response-index in
-    let inv = c.loop-response.invariant in
-    let step : total (sizes (drop i xs)) ≡ (get_or xs i no_response).size + total (sizes (drop (i + 1) xs)) = at_drop_more (λ rs. total (sizes rs)) xs i no_response c.loop-response-test.true in
-    let sized = All-get_or Sized xs i no_response c.loop-response-test.true c.requires.1 in
-    (omega arith, omega arith)
 
 pub returns : goal.returns
 returns c =
-    let none : total (sizes (drop c.loop-response.response-index c.args.responses.now)) ≡ 0 = at_drop_all (λ rs. total (sizes rs)) c.args.responses.now c.loop-response.response-index c.loop-response-test.false in
-    record { value = omega (arith, c.loop-response.invariant.0); most = omega (arith, c.loop-response.invariant.1, c.requires.0) }
+    let xs = c.args.responses.now in
+    let value : c.sum.result ≡ total (sizes xs) = sum_from_yields_List c.map.result c.sum.result c.sum.ensures.ran (YieldsList-from_map _ (λ (x : Response). x.size) (YieldsList-at c.map.ensures.source (YieldsList-from_slice xs cc)) c.map.ensures.closure (λ x r q k. search rules)) ∙ sym (total_is (sizes xs)) in
+    record { value = value; most = omega (arith, total_most xs c.requires.1, c.requires.0) }

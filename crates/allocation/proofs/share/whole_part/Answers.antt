@@ -5,11 +5,10 @@ use Rattle.allocation.proofs.share.whole_part.Goals as goal
 
 pub overflow_mul-result : goal.overflow_mul-result
 overflow_mul-result c =
-    let fits = mul-le c.args.k c.from.result 6400000 100000 (omega arith) (omega arith) in
+    let fits = mul-le c.args.k c.from.result 6400000 4294967295 (omega arith) (omega arith) in
     omega arith
 
 pub returns : goal.returns
 returns c =
     let same = ap (λ s. c.args.k * s / c.args.all) c.from.ensures in
-    let part = part_below c.args.k c.args.all c.args.size c.requires.0 c.requires.1.1.0 in
-    record { value = same; below = omega arith }
+    record { value = same; below = λ some. let part = part_below c.args.k c.args.all c.args.size c.requires.0 some in omega arith }
