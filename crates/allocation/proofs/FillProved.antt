@@ -37,14 +37,14 @@ sound_arranged ahead xs h =
 
 -- walking the arranged responses writes the fills of their levels
 pub walked_levels : (ahead : Response → Response → Bool) (side : Side) (t : ContraTerms) (xs ys : List Response) (size : ℕ) → ys ≡ arranged ahead xs
-    → walked (length ys + 1) side t (contra_level t.guarantee.kind t) true ys size 0 ≡ fills side t (levels ahead (contra_level t.guarantee.kind t) xs) size 0
+    → walked (length ys + 1) side t (Some (contra_level t.guarantee.kind t)) ys size 0 ≡ fills side t (levels ahead (contra_level t.guarantee.kind t) xs) size 0
 walked_levels ahead side t xs ys size e =
     let own : ℤ = contra_level t.guarantee.kind t in
     let ls = levels ahead own xs in
     let flat_is : flat ls ≡ ys = flat_arranged ahead own xs ∙ sym e in
     let long : length ys ≡ length xs = ap length e ∙ length_permutation xs (arranged ahead xs) (shuffled_arranged ahead xs) in
     let few : length ls ≤ length ys + 1 = omega (arith, few_levels ahead own xs) in
-    ap (λ zs. walked (length ys + 1) side t own true zs size 0) (sym flat_is) ∙ walked_is_fills (length ys + 1) side t own true ls size 0 few (walkable_levels ahead own xs)
+    ap (λ zs. walked (length ys + 1) side t (Some own) zs size 0) (sym flat_is) ∙ walked_is_fills (length ys + 1) side t own (Some own) ls size 0 few (walkable_levels ahead own xs)
 
 -- a price between two that can be turned can be turned
 between : (low z high : ℤ) → showable (Some low) ≡ true → showable (Some high) ≡ true → le_z low z ≡ true → le_z z high ≡ true → showable (Some z) ≡ true

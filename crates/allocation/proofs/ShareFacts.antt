@@ -1,11 +1,12 @@
 -- What the shares of responses come to: in all as many as there are, none above its size, each the part by size rounded
 -- down or one more.
-use Rattle.std.proofs.Common.{◌≡◌, ℕ, suc, ◌+◌, ◌-◌, ◌*◌, ◌/◌, ◌<◌, ◌≤◌, min, leb, ◌⊎◌, List, [], ◌∷◌, map, length, sum, sym, refl, ap, ◌∙◌, subst, inl, inr, mul_comm, div-lt_iff_lt-mul, add-mul, lt_of_mul-lt-mul_right, mul-add, div-mul-le_self, le_of_mul-le-mul_right, arith}
+use Rattle.std.proofs.Common.{◌≡◌, ℕ, suc, ◌+◌, ◌-◌, ◌*◌, ◌/◌, ◌<◌, ◌≤◌, min, leb, ◌⊎◌, List, [], ◌∷◌, map, length, get_or, sum, sym, refl, ap, ◌∙◌, subst, inl, inr, mul_comm, div-lt_iff_lt-mul, add-mul, lt_of_mul-lt-mul_right, mul-add, div-mul-le_self, le_of_mul-le-mul_right, arith}
 use native.Mathlib.Nat.{lt-div-mul-add, mul-lt-mul_of_pos_left, mul-div_cancel_left}
 use Rattle.std.specs.List.{AllZip, AllByRecursion}
 use Rattle.std.proofs.lemmas.Bool.{leb-true, leb-false, cond_both, cases_lt}
 use Rattle.std.proofs.lemmas.List.Recursion.{is_sum_by}
-use Rattle.std.proofs.lemmas.List.Sums.{sum-map}
+use Rattle.std.proofs.lemmas.List.Sums.{sum-map, get_or-le-sum_by}
+use Rattle.std.proofs.lemmas.Nat.{mul-le}
 use Rattle.allocation.specs.declared.response.Response.{Response}
 use Rattle.allocation.specs.LevelSteps.{Sized}
 use Rattle.allocation.specs.Shares.{sizes, total, parts_total, dealt, shared}
@@ -72,6 +73,51 @@ pub part_below : (k t s : ℕ) → k < t → 0 < s → k * s / t < s
 part_below k t s h p =
     let less : k * s < s * t = omega (arith, mul-lt-mul_of_pos_left {k = s} h p, mul_comm k s) in
     (div-lt_iff_lt-mul {k = t} {x = k * s} {y = s} (omega arith)).1 less
+
+pub part_most : (k t s : ℕ) → k ≤ t → 0 < t → k * s / t ≤ s
+part_most k t s h p =
+    let most : k * s < (s + 1) * t = omega (arith, mul-le k s t s h (omega arith), mul_comm t s, add-mul s 1 t) in
+    let less = (div-lt_iff_lt-mul {k = t} {x = k * s} {y = s + 1} p).1 most in
+    omega arith
+
+pub size_within : (xs : List Response) (i : ℕ) (d : Response) → i < length xs → (get_or xs i d).size ≤ total (sizes xs)
+size_within xs i d h = omega (arith, is_sum_by (λ ys. total (sizes ys)) (λ (x : Response). x.size) refl (λ _ _. refl) xs, get_or-le-sum_by (λ (x : Response). x.size) xs i d h)
+
+-- where all can be had, each part is the whole size
+pub parts_all : (t : ℕ) (ss : List ℕ) → 0 < t → parts_total t t ss ≡ total ss
+parts_all t [] p = refl
+parts_all t (s ∷ ss) p = omega (arith, parts_all t ss p, mul-div_cancel_left s {n = t} p)
+
+pub dealt_all : (t : ℕ) (ss : List ℕ) → 0 < t → dealt t t 0 ss ≡ ss
+dealt_all t [] p = refl
+dealt_all t (s ∷ ss) p =
+    let head : t * s / t + 0 ≡ s = omega (arith, mul-div_cancel_left s {n = t} p) in
+    let rest = dealt_all t ss p in
+    cc
+
+-- what can be had is enough for the parts, and leaves none odd where it is enough for all
+pub parts_within : (k : ℕ) (xs : List Response) → AllByRecursion Sized xs → k ≤ total (sizes xs) → parts_total k (total (sizes xs)) (sizes xs) ≤ k
+parts_within k [] a h = omega arith
+parts_within k (x ∷ xs) (s, a) h = le_of_mul-le-mul_right (parts_below k (total (sizes (x ∷ xs))) (sizes (x ∷ xs))) (omega (arith, s.0))
+
+pub none_odd : (xs : List Response) → AllByRecursion Sized xs → total (sizes xs) - parts_total (total (sizes xs)) (total (sizes xs)) (sizes xs) ≡ 0
+none_odd [] a = refl
+none_odd (x ∷ xs) (s, a) = omega (arith, parts_all (total (sizes (x ∷ xs))) (sizes (x ∷ xs)) (omega (arith, s.0)))
+
+-- to share is to deal what can be had
+pub shared_dealt : (k : ℕ) (xs : List Response) → AllByRecursion Sized xs → shared k (sizes xs) ≡ dealt (min k (total (sizes xs))) (total (sizes xs)) (min k (total (sizes xs)) - parts_total (min k (total (sizes xs))) (total (sizes xs)) (sizes xs)) (sizes xs)
+shared_dealt k xs a =
+    let ss : List ℕ = sizes xs in
+    let t : ℕ = total ss in
+    cond_both (leb t k) ss (dealt k t (k - parts_total k t ss) ss) (λ fs. fs ≡ dealt (min k t) t (min k t - parts_total (min k t) t ss) ss)
+    (λ e. let le = leb-true t k e in let all : min k t ≡ t = omega arith in rw all (full xs a))
+    (λ e. let lt = leb-false t k e in let all : min k t ≡ k = omega arith in rw all refl)
+  where
+    full : (ys : List Response) → AllByRecursion Sized ys → sizes ys ≡ dealt (total (sizes ys)) (total (sizes ys)) (total (sizes ys) - parts_total (total (sizes ys)) (total (sizes ys)) (sizes ys)) (sizes ys)
+    full [] h = refl
+    full (y ∷ ys) (s, h) =
+        let ss : List ℕ = sizes (y ∷ ys) in
+        sym (dealt_all (total ss) ss (omega (arith, s.0))) ∙ ap (λ odd. dealt (total ss) (total ss) odd ss) (sym (none_odd (y ∷ ys) (s, h)))
 
 pub none_over_dealt : (k t odd : ℕ) (ss : List ℕ) → k < t → AllByRecursion (λ s. 0 < s) ss → AllZip (λ s f. f ≤ s) ss (dealt k t odd ss)
 none_over_dealt k t odd [] h a = tt

@@ -16,6 +16,7 @@ use crate::order::ContraTerms;
 use crate::ranking::Ranking;
 use crate::refusal::FillRefusal;
 use crate::response::Response;
+use crate::share::Standing;
 use crate::split::guaranteed_share;
 use crate::walk::fill_levels;
 use market::side::Side;
@@ -37,7 +38,7 @@ fn share_out<R: Ranking>(
     ensures rows { rows.new ≡ fills side terms.now (levels (by_key (R.Ranking.ahead ranking.now)) (contra_level terms.now.guarantee.kind terms.now) responses.old) size 0 ++ drop result rows.old }
 {
     arrange(ranking, responses);
-    fill_levels(side, terms, size, responses, rows)
+    fill_levels(side, terms, size, &Standing { responses }, rows)
 }
 
 impl Auction {
@@ -66,14 +67,13 @@ impl Auction {
         ensures rows { rows.new ≡ auction_fills (by_key (R.Ranking.ahead ranking.now)) (auction_values self.now) ++ drop result rows.old }
     {
         let mut responses = self.table.rows;
-        let n = self.table.len;
         let terms = self.contra_terms();
         share_out(
             ranking,
             self.order.side,
             &terms,
             self.order.size,
-            &mut responses[0..n],
+            &mut responses[..self.table.len],
             rows,
         )
     }

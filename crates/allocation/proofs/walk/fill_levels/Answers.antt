@@ -1,22 +1,18 @@
-use Rattle.std.proofs.Common.{◌≡◌, ◌<◌, true, ◌⊎◌, length, inl, inr, arith}
-use Rattle.allocation.proofs.WalkSteps.{begins, progress, steps_on, all_written}
+use Rattle.std.proofs.Common.{Some, sym, ap, ◌∙◌, arith, w64, SFits, rules}
+use Rattle.std.proofs.lemmas.Int.{to_z-of_z}
+use Rattle.allocation.proofs.WalkSteps.{steps_on, all_written}
 use Rattle.allocation.proofs.walk.fill_levels.Goals as goal
-use Rattle.allocation.proofs.walk.fill_levels.Goals.{then-walk, else-walk+then-walk-responses}
 
-pub loop-walk-init : goal.loop-walk-init
-loop-walk-init c = begins c.args.side c.args.terms.now c.args.responses.now c.args.rows.now c.args.size c.from.result c.from.ensures c.requires.size
-
-pub loop-walk-smaller : goal.loop-walk-smaller
-loop-walk-smaller c =
-    let more : (c.loop-walk.walk.pending ≡ true) ⊎ (c.loop-walk.walk.next < length c.args.responses.now) = elim c.if-walk.branch [ then-walk w ↦ inl w.if-walk.true | else-walk+then-walk-responses w ↦ inr w.if-walk-responses.true ] in
-    (progress c.args.terms.now c.args.responses.now c.loop-walk.walk c.walk_level-walk.result more c.walk_level-walk.ensures.walk c.walk_level-walk.ensures.within.0 c.loop-walk.invariant.room).0
-
-pub loop-walk-preserved : goal.loop-walk-preserved
-loop-walk-preserved c =
-    let more : (c.loop-walk.walk.pending ≡ true) ⊎ (c.loop-walk.walk.next < length c.args.responses.now) = elim c.if-walk.branch [ then-walk w ↦ inl w.if-walk.true | else-walk+then-walk-responses w ↦ inr w.if-walk-responses.true ] in
-    steps_on c.args.side c.args.terms.now c.args.responses.now c.args.rows.now _ c.loop-walk.walk c.walk_level-walk.result c.loop-walk.rows c.walk_level-walk.new.rows c.loop-walk.invariant more c.requires.responses.0 (omega (arith, c.requires.rows)) c.walk_level-walk.ensures.walk c.walk_level-walk.ensures.within.0 c.walk_level-walk.ensures.within.1 c.walk_level-walk.ensures.rows
+pub loop-price-preserved : goal.loop-price-preserved
+loop-price-preserved c =
+    let price = c.in-Some.price in
+    let fits : SFits w64 price = search rules in
+    let next = sym c.in-Some.ensures ∙ ap Some (sym (to_z-of_z w64 price fits)) in
+    let arranged = c.args.arranged.now in
+    steps_on c.args.side c.args.terms.now arranged.responses.now c.args.rows.now _ c.loop-price.walk c.past_level-walk.result _ c.loop-price.rows c.past_level-walk.new.rows c.loop-price.invariant next arranged.sound.0 (omega (arith, c.requires.rows)) c.past_level-walk.ensures.walk c.past_level-walk.ensures.within.0 c.past_level-walk.ensures.within.1 c.past_level-walk.ensures.rows
 
 pub returns : goal.returns
 returns c =
-    let end = all_written c.args.side c.args.terms.now c.args.responses.now c.args.rows.now _ c.loop-walk.walk c.loop-walk.rows c.loop-walk.invariant c.if-walk.false c.if-walk-responses.false (omega (arith, c.loop-walk.invariant.room, c.requires.rows, c.requires.responses.0)) in
+    let arranged = c.args.arranged.now in
+    let end = all_written c.args.side c.args.terms.now arranged.responses.now c.args.rows.now _ c.loop-price.walk c.loop-price.rows c.loop-price.invariant (sym c.price_to_come.ensures ∙ c.in_default.is) (omega (arith, c.loop-price.invariant.room, c.requires.rows, arranged.sound.0)) in
     record { rows = end.0; count = end.1 }

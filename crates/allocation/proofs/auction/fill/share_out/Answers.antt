@@ -4,14 +4,9 @@ use Rattle.allocation.proofs.FillProved.{sound_arranged, walked_levels}
 use Rattle.allocation.proofs.Runs.{sound_at}
 use Rattle.allocation.proofs.auction.fill.share_out.Goals as goal
 
-pub fill_levels-requires : goal.fill_levels-requires
-fill_levels-requires g c =
-    record {
-      responses = sound_at c.arrange.ensures (sound_arranged (by_key (g.R.Ranking.ahead c.args.ranking.now)) c.args.responses.now c.requires.responses);
-      own = c.requires.own;
-      size = c.requires.size;
-      rows = c.requires.rows;
-    }
+pub invariant_of-fill_levels : goal.invariant_of-fill_levels
+invariant_of-fill_levels g c =
+    record { sound = sound_at c.arrange.ensures (sound_arranged (by_key (g.R.Ranking.ahead c.args.ranking.now)) c.args.responses.now c.requires.responses) }
 
 pub returns : goal.returns
 returns g c =
