@@ -6,7 +6,6 @@ use Rattle.std.specs.List.{AllZip, AllByRecursion}
 use Rattle.std.proofs.lemmas.Bool.{leb-true, leb-false, cond_both, cases_lt}
 use Rattle.std.proofs.lemmas.List.Recursion.{is_sum_by}
 use Rattle.std.proofs.lemmas.List.Sums.{sum-map, get_or-le-sum_by}
-use Rattle.std.proofs.lemmas.Nat.{mul-le}
 use Rattle.allocation.specs.declared.response.Response.{Response}
 use Rattle.allocation.specs.LevelSteps.{Sized}
 use Rattle.allocation.specs.Shares.{sizes, total, parts_total, dealt, shared}
@@ -73,12 +72,6 @@ pub part_below : (k t s : ℕ) → k < t → 0 < s → k * s / t < s
 part_below k t s h p =
     let less : k * s < s * t = omega (arith, mul-lt-mul_of_pos_left {k = s} h p, mul_comm k s) in
     (div-lt_iff_lt-mul {k = t} {x = k * s} {y = s} (omega arith)).1 less
-
-pub part_most : (k t s : ℕ) → k ≤ t → 0 < t → k * s / t ≤ s
-part_most k t s h p =
-    let most : k * s < (s + 1) * t = omega (arith, mul-le k s t s h (omega arith), mul_comm t s, add-mul s 1 t) in
-    let less = (div-lt_iff_lt-mul {k = t} {x = k * s} {y = s + 1} p).1 most in
-    omega arith
 
 pub size_within : (xs : List Response) (i : ℕ) (d : Response) → i < length xs → (get_or xs i d).size ≤ total (sizes xs)
 size_within xs i d h = omega (arith, is_sum_by (λ ys. total (sizes ys)) (λ (x : Response). x.size) refl (λ _ _. refl) xs, get_or-le-sum_by (λ (x : Response). x.size) xs i d h)

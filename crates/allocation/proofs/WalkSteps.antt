@@ -5,7 +5,6 @@ use lib.ListN.{length-map}
 use lib.Signed.{lt_z}
 use Rattle.std.proofs.lemmas.List.{length-take, length-take-le, drop-drop, append-nil, take-append-drop}
 use Rattle.std.proofs.lemmas.Bool.{cond_both, ltb-true, ltb-false}
-use Rattle.std.specs.List.{AllByRecursion}
 use Rattle.market.specs.declared.side.Side.{Side}
 use Rattle.market.specs.Prices.{showable}
 use Rattle.allocation.specs.declared.fill.FillRow.{FillRow}
@@ -17,20 +16,15 @@ use Rattle.allocation.specs.declared.split.Split.{Split}
 use Rattle.allocation.specs.declared.walk.Walk.{Walk}
 use Rattle.allocation.specs.FillLaws.{same_price, same_class}
 use Rattle.allocation.specs.FillList.{split_at, class_rows, shared_rows, contra_row, contra_rows, level_rows}
-use Rattle.allocation.specs.Levels.{Level, contra_level}
-use Rattle.allocation.specs.LevelSteps.{stands_at, leading, next_price, front_level, Sized}
+use Rattle.allocation.specs.Levels.{Level}
+use Rattle.allocation.specs.LevelSteps.{stands_at, leading, next_price, front_level}
 use Rattle.allocation.specs.Shares.{sizes, total, shared, dealt, parts_total}
 use Rattle.allocation.specs.Splits.{taken}
 use Rattle.allocation.proofs.ShareFacts.{length_dealt}
 use Rattle.allocation.proofs.Writes.{mid_take, mid_drop}
 use Rattle.allocation.specs.Walk.{behind_level, still_to_come, walked, walk_level, walk_split, walk_on}
 
--- the price that comes next can be turned
-pub price_showable : (own : Option ℤ) (xs : List Response) → showable own ≡ true → AllByRecursion Sized xs → showable (next_price own xs) ≡ true
-price_showable own [] h a = h
-price_showable (Some own) (x ∷ xs) h (s, a) = cond_both (lt_z own x.price) own x.price (λ z. showable (Some z) ≡ true) (λ _. h) (λ _. s.2)
-price_showable None (x ∷ xs) h (s, a) = s.2
-
+-- the contra's own price can be turned while it is still to come
 still_showable : (own : Option ℤ) (price : ℤ) → showable own ≡ true → showable (still_to_come own price) ≡ true
 still_showable None price h = refl
 still_showable (Some own) price h = cond_both (same_price price own) None (Some own) (λ o. showable o ≡ true) (λ _. refl) (λ _. h)
@@ -109,20 +103,6 @@ moves_on (Some own) (x ∷ xs) price h = go (lt_z own x.price) refl
         let at_first : next_price (Some own) (x ∷ xs) ≡ Some x.price = rw e in
         let first : x.price ≡ price = let both : Some x.price ≡ Some price = sym at_first ∙ h in cc in
         inl (subst (λ z. 0 < length (front_level z (x ∷ xs)).customers + length (front_level z (x ∷ xs)).others) first (some_stand x xs))
-
--- nothing is written yet
-pub begins : (side : Side) (t : ContraTerms) (xs : List Response) (rows : List FillRow) (own : ℤ) (size n : ℕ) → own ≡ contra_level t.guarantee.kind t → showable (Some own) ≡ true → n ≡ size → size ≤ 100000
-    → Underway side t xs rows (walked (length xs + 1) side t (Some (contra_level t.guarantee.kind t)) xs size 0) (record { own = Some own; next = 0; at = 0; progress = record { left = n; so_far = 0 } }) rows
-begins side t xs rows own size n e shown k h = record {
-  turns = length xs + 1;
-  enough = omega arith;
-  inside = omega arith;
-  few = omega arith;
-  room = omega arith;
-  shown = shown;
-  so_written = ap (λ z. walked (length xs + 1) side t (Some z) xs n 0) e ∙ ap (λ z. walked (length xs + 1) side t (Some (contra_level t.guarantee.kind t)) xs z 0) k;
-  untouched = refl;
-}
 
 -- as many rows as a level has responses, and one for the contra if it gets any
 length_shared_rows : (side : Side) (k : ℕ) (xs : List Response) → length (shared_rows side k xs) ≡ length xs

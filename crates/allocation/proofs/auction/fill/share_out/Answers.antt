@@ -1,12 +1,12 @@
-use Rattle.std.proofs.Common.{◌++◌, length, drop, ap, ◌∙◌}
+use Rattle.std.proofs.Common.{◌++◌, length, drop, sym, ap, ◌∙◌, subst}
 use Rattle.allocation.specs.Rankings.{by_key}
 use Rattle.allocation.proofs.FillProved.{sound_arranged, walked_levels}
-use Rattle.allocation.proofs.Runs.{sound_at}
+use Rattle.allocation.specs.LevelSteps.{Sound}
 use Rattle.allocation.proofs.auction.fill.share_out.Goals as goal
 
 pub invariant_of-fill_levels : goal.invariant_of-fill_levels
 invariant_of-fill_levels g c =
-    record { sound = sound_at c.arrange.ensures (sound_arranged (by_key (g.R.Ranking.ahead c.args.ranking.now)) c.args.responses.now c.requires.responses) }
+    record { sound = subst Sound (sym c.arrange.ensures) (sound_arranged (by_key (g.R.Ranking.ahead c.args.ranking.now)) c.args.responses.now c.requires.responses) }
 
 pub returns : goal.returns
 returns g c =
