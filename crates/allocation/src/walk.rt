@@ -23,22 +23,32 @@ pub struct Walk {
     pub progress: Progress,
 }
 
-// The contra's own price.
-fn own_price(terms: &ContraTerms) -> i64
-    ensures { result ≡ contra_level terms.now.guarantee.kind terms.now }
-{
-    match terms.guarantee.kind {
-        GuaranteeKind::SingleStop => terms.guarantee.price,
-        GuaranteeKind::AutoMatchLimit => terms.initiating,
+// An order that is shared out: its side, the contra's terms, and the responses in the order of their rows.
+#[derive(Clone, Copy)]
+pub(crate) struct ShareOut<'a> {
+    pub side: Side,
+    pub terms: ContraTerms,
+    pub arranged: Standing<'a>,
+}
+
+impl ContraTerms {
+    // The contra's own price.
+    fn own_price(&self) -> i64
+        ensures { result ≡ contra_level self.now.guarantee.kind self.now }
+    {
+        match self.guarantee.kind {
+            GuaranteeKind::SingleStop => self.guarantee.price,
+            GuaranteeKind::AutoMatchLimit => self.initiating,
+        }
     }
 }
 
-impl Walk {
+impl ShareOut<'_> {
     // The lowest price that is still to come, if there is any.
-    fn price_to_come(&self, arranged: &Standing) -> Option<i64>
-        ensures { result ≡ next_price self.now.own (drop self.now.next arranged.now.responses.now) }
+    fn price_to_come(&self, walk: &Walk) -> Option<i64>
+        ensures { result ≡ next_price walk.now.own (drop walk.now.next self.now.arranged.responses.now) }
     {
-        match (arranged.responses.get(self.next), self.own) {
+        match (self.arranged.responses.get(walk.next), walk.own) {
             (Some(first), Some(own)) => Some(first.price.min(own)),
             (Some(first), None) => Some(first.price),
             (None, own) => own,
@@ -46,65 +56,51 @@ impl Walk {
     }
 
     // Writes the rows of the level at this price, handing on that level's run of the rows alone, and goes on behind it.
-    fn past_level(
-        self,
-        side: Side,
-        terms: &ContraTerms,
-        price: i64,
-        arranged: &Standing,
-        rows: &mut [FillRow],
-    ) -> Walk
+    fn past_level(&self, walk: Walk, price: i64, rows: &mut [FillRow]) -> Walk
         requires price { showable (Some price) ≡ true }
-        requires next { self.next ≤ length arranged.now.responses.now }
-        requires left { self.progress.left + self.progress.so_far ≤ 100000 }
-        requires room { self.at + (length arranged.now.responses.now + 1) ≤ self.next + length rows.old }
-        ensures walk { result ≡ walk_on self (walk_level price self arranged.now.responses.now) (walk_split terms.now price self arranged.now.responses.now) }
-        ensures within { (result.next ≤ length arranged.now.responses.now) × (result.progress.left + result.progress.so_far ≤ 100000) }
-        ensures rows { rows.new ≡ take self.at rows.old ++ (level_rows side (walk_level price self arranged.now.responses.now) (walk_split terms.now price self arranged.now.responses.now) ++ drop result.at rows.old) }
+        requires next { walk.next ≤ length self.now.arranged.responses.now }
+        requires left { walk.progress.left + walk.progress.so_far ≤ 100000 }
+        requires room { walk.at + (length self.now.arranged.responses.now + 1) ≤ walk.next + length rows.old }
+        ensures walk { result ≡ walk_on walk (walk_level price walk self.now.arranged.responses.now) (walk_split self.now.terms price walk self.now.arranged.responses.now) }
+        ensures within { (result.next ≤ length self.now.arranged.responses.now) × (result.progress.left + result.progress.so_far ≤ 100000) }
+        ensures rows { rows.new ≡ take walk.at rows.old ++ (level_rows self.now.side (walk_level price walk self.now.arranged.responses.now) (walk_split self.now.terms price walk self.now.arranged.responses.now) ++ drop result.at rows.old) }
     {
-        let (_, behind) = arranged.split_at(self.next);
-        let plan = LevelPlan::at_front(terms, price, &behind, self.progress);
+        let (_, behind) = self.arranged.split_at(walk.next);
+        let plan = LevelPlan::at_front(&self.terms, price, &behind, walk.progress);
         let split = plan.split;
-        let at = self.at;
-        let end = at + plan.row_count();
-        plan.write_rows(side, &mut rows[at..end]);
+        let end = walk.at + plan.row_count();
+        plan.write_rows(self.side, &mut rows[walk.at..end]);
         Walk {
-            own: self.own.filter(|own| *own != price),
-            next: self.next + (plan.customers.responses.len() + plan.others.responses.len()),
+            own: walk.own.filter(|own| *own != price),
+            next: walk.next + (plan.customers.responses.len() + plan.others.responses.len()),
             at: end,
             progress: Progress {
-                left: self.progress.left - (split.customers + (split.contra + split.others)),
-                so_far: self.progress.so_far + split.contra,
+                left: walk.progress.left - (split.customers + (split.contra + split.others)),
+                so_far: walk.progress.so_far + split.contra,
             },
         }
     }
-}
 
-// Writes the rows of all levels and answers how many there are.
-pub(crate) fn fill_levels(
-    side: Side,
-    terms: &ContraTerms,
-    size: u32,
-    arranged: &Standing,
-    rows: &mut [FillRow],
-) -> usize
-    requires own { showable (Some (contra_level terms.now.guarantee.kind terms.now)) ≡ true }
-    requires size { size ≤ 100000 }
-    requires rows { 129 ≤ length rows.old }
-    ensures rows { rows.new ≡ walked (length arranged.now.responses.now + 1) side terms.now (Some (contra_level terms.now.guarantee.kind terms.now)) arranged.now.responses.now size 0 ++ drop result rows.old }
-    ensures count { result ≡ length (walked (length arranged.now.responses.now + 1) side terms.now (Some (contra_level terms.now.guarantee.kind terms.now)) arranged.now.responses.now size 0) }
-{
-    let mut walk = Walk {
-        own: Some(own_price(terms)),
-        next: 0,
-        at: 0,
-        progress: Progress {
-            left: u64::from(size),
-            so_far: 0,
-        },
-    };
-    while let Some(price) = walk.price_to_come(arranged) {
-        walk = walk.past_level(side, terms, price, arranged, rows);
+    // Writes the rows of all levels, for an order of this size, and answers how many there are.
+    pub(crate) fn write_rows(&self, size: u32, rows: &mut [FillRow]) -> usize
+        requires own { showable (Some (contra_level self.now.terms.guarantee.kind self.now.terms)) ≡ true }
+        requires size { size ≤ 100000 }
+        requires rows { 129 ≤ length rows.old }
+        ensures rows { rows.new ≡ walked (length self.now.arranged.responses.now + 1) self.now.side self.now.terms (Some (contra_level self.now.terms.guarantee.kind self.now.terms)) self.now.arranged.responses.now size 0 ++ drop result rows.old }
+        ensures count { result ≡ length (walked (length self.now.arranged.responses.now + 1) self.now.side self.now.terms (Some (contra_level self.now.terms.guarantee.kind self.now.terms)) self.now.arranged.responses.now size 0) }
+    {
+        let mut walk = Walk {
+            own: Some(self.terms.own_price()),
+            next: 0,
+            at: 0,
+            progress: Progress {
+                left: u64::from(size),
+                so_far: 0,
+            },
+        };
+        while let Some(price) = self.price_to_come(&walk) {
+            walk = self.past_level(walk, price, rows);
+        }
+        walk.at
     }
-    walk.at
 }
