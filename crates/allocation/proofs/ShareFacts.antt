@@ -98,7 +98,7 @@ none_odd [] a = refl
 none_odd (x ∷ xs) (s, a) = omega (arith, parts_all (total (sizes (x ∷ xs))) (sizes (x ∷ xs)) (omega (arith, s.0)))
 
 -- to share is to deal what can be had
-pub shared_dealt : (k : ℕ) (xs : List Response) → AllByRecursion Sized xs → shared k (sizes xs) ≡ dealt (min k (total (sizes xs))) (total (sizes xs)) (min k (total (sizes xs)) - parts_total (min k (total (sizes xs))) (total (sizes xs)) (sizes xs)) (sizes xs)
+shared_dealt : (k : ℕ) (xs : List Response) → AllByRecursion Sized xs → shared k (sizes xs) ≡ dealt (min k (total (sizes xs))) (total (sizes xs)) (min k (total (sizes xs)) - parts_total (min k (total (sizes xs))) (total (sizes xs)) (sizes xs)) (sizes xs)
 shared_dealt k xs a =
     let ss : List ℕ = sizes xs in
     let t : ℕ = total ss in
@@ -111,6 +111,20 @@ shared_dealt k xs a =
     full (y ∷ ys) (s, h) =
         let ss : List ℕ = sizes (y ∷ ys) in
         sym (dealt_all (total ss) ss (omega (arith, s.0))) ∙ ap (λ odd. dealt (total ss) (total ss) odd ss) (sym (none_odd (y ∷ ys) (s, h)))
+
+pub shared_min : (k : ℕ) (xs : List Response) → AllByRecursion Sized xs → shared (min k (total (sizes xs))) (sizes xs) ≡ shared k (sizes xs)
+shared_min k xs a =
+    let ss : List ℕ = sizes xs in
+    let t : ℕ = total ss in
+    let same : min (min k t) t ≡ min k t = omega arith in
+    shared_dealt (min k t) xs a ∙ ap (λ n. dealt n t (n - parts_total n t ss) ss) same ∙ sym (shared_dealt k xs a)
+
+pub dealt_within : (k : ℕ) (xs : List Response) → AllByRecursion Sized xs → k ≤ total (sizes xs) → dealt k (total (sizes xs)) (k - parts_total k (total (sizes xs)) (sizes xs)) (sizes xs) ≡ shared k (sizes xs)
+dealt_within k xs a h =
+    let ss : List ℕ = sizes xs in
+    let t : ℕ = total ss in
+    let same : k ≡ min k t = omega arith in
+    ap (λ n. dealt n t (n - parts_total n t ss) ss) same ∙ sym (shared_dealt k xs a)
 
 pub none_over_dealt : (k t odd : ℕ) (ss : List ℕ) → k < t → AllByRecursion (λ s. 0 < s) ss → AllZip (λ s f. f ≤ s) ss (dealt k t odd ss)
 none_over_dealt k t odd [] h a = tt

@@ -1,10 +1,10 @@
 // Sharing contracts among the responses of one class at one price, which stand in ranking order.
-ghost use Rattle.std.specs.Prelude.{◌≡◌, ◌-◌, ◌*◌, ◌/◌, ◌<◌, ◌≤◌, true, length, take, drop, Some};
+ghost use Rattle.std.specs.Prelude.{◌≡◌, ◌*◌, ◌/◌, ◌<◌, ◌≤◌, true, length, take, drop, Some};
 ghost use Rattle.std.proofs.Props.{props};
 ghost use Rattle.market.specs.Prices.{showable};
-ghost use Rattle.allocation.specs.FillList.{fill_row, class_rows, shared_rows};
+ghost use Rattle.allocation.specs.FillList.{fill_row, shared_rows};
 ghost use Rattle.allocation.specs.LevelSteps.{Sized, Sound};
-ghost use Rattle.allocation.specs.Shares.{sizes, total, parts_total, dealt};
+ghost use Rattle.allocation.specs.Shares.{sizes, total, parts_total};
 
 use crate::fill::FillRow;
 use crate::response::Response;
@@ -41,44 +41,6 @@ fn row_of(side: Side, response: &Response, filled: u32) -> FillRow
         kind: response.kind,
         filled,
         left: response.size - filled,
-    }
-}
-
-impl Deal<'_> {
-    // The whole contracts that fall to a size: its part of the contracts by all sizes, rounded down.
-    fn whole_part(&self, size: u32) -> u64
-        requires some { 1 ≤ size }
-        requires within { size ≤ self.now.asked }
-        ensures value { result ≡ self.now.contracts * size / self.now.asked }
-        ensures most { result ≤ size }
-        ensures below { self.now.contracts < self.now.asked → result < size }
-    {
-        self.contracts * u64::from(size) / self.asked
-    }
-
-    // These, added up.
-    fn whole_parts(&self) -> u64
-        ensures { result ≡ parts_total self.now.contracts self.now.asked (sizes self.now.among.responses.now) }
-    {
-        self.among
-            .responses
-            .iter()
-            .map(|response| self.whole_part(response.size))
-            .sum()
-    }
-
-    // Deals each response its whole contracts, and one more to each of the first until none is left.
-    fn write_rows(&self, side: Side, rows: &mut [FillRow])
-        requires { length rows.old ≡ length self.now.among.responses.now }
-        ensures { rows.new ≡ class_rows side self.now.among.responses.now (dealt self.now.contracts self.now.asked (self.now.contracts - parts_total self.now.contracts self.now.asked (sizes self.now.among.responses.now)) (sizes self.now.among.responses.now)) }
-    {
-        let mut odd = self.contracts - self.whole_parts();
-        for (i, response) in self.among.responses.iter().enumerate() {
-            let extra = odd.min(1);
-            let filled = (self.whole_part(response.size) + extra) as u32;
-            rows[i] = row_of(side, response, filled);
-            odd -= extra;
-        }
     }
 }
 
@@ -120,5 +82,44 @@ impl<'a> Standing<'a> {
             asked,
         };
         deal.write_rows(side, rows);
+    }
+}
+
+impl Deal<'_> {
+    // The whole contracts that fall to a size: its part of the contracts by all sizes, rounded down.
+    fn whole_part(&self, size: u32) -> u64
+        requires some { 1 ≤ size }
+        requires within { size ≤ self.now.asked }
+        ensures value { result ≡ self.now.contracts * size / self.now.asked }
+        ensures most { result ≤ size }
+        ensures below { self.now.contracts < self.now.asked → result < size }
+    {
+        self.contracts * u64::from(size) / self.asked
+    }
+
+    // These, added up.
+    fn whole_parts(&self) -> u64
+        ensures { result ≡ parts_total self.now.contracts self.now.asked (sizes self.now.among.responses.now) }
+    {
+        self.among
+            .responses
+            .iter()
+            .map(|response| self.whole_part(response.size))
+            .sum()
+    }
+
+    // Deals each response its whole contracts, and one more to each of the first until none is left.
+    fn write_rows(&self, side: Side, rows: &mut [FillRow])
+        requires { length rows.old ≡ length self.now.among.responses.now }
+        ensures { rows.new ≡ shared_rows side self.now.contracts self.now.among.responses.now }
+    {
+        // The rows are written by place: after a loop over `rows.iter_mut().zip(..)` no proof knows what they hold.
+        let mut odd = self.contracts - self.whole_parts();
+        for (i, response) in self.among.responses.iter().enumerate() {
+            let extra = odd.min(1);
+            let filled = (self.whole_part(response.size) + extra) as u32;
+            rows[i] = row_of(side, response, filled);
+            odd -= extra;
+        }
     }
 }

@@ -48,10 +48,14 @@ impl ShareOut<'_> {
     fn price_to_come(&self, walk: &Walk) -> Option<i64>
         ensures { result ≡ next_price walk.now.own (drop walk.now.next self.now.arranged.responses.now) }
     {
-        match (self.arranged.responses.get(walk.next), walk.own) {
-            (Some(first), Some(own)) => Some(first.price.min(own)),
-            (Some(first), None) => Some(first.price),
-            (None, own) => own,
+        let next = self
+            .arranged
+            .responses
+            .get(walk.next)
+            .map(|next| next.price);
+        match (next, walk.own) {
+            (Some(next), Some(own)) => Some(next.min(own)),
+            (next, own) => next.or(own),
         }
     }
 
