@@ -1,5 +1,5 @@
 // How the contracts that are left are split at one level among customers, contra and others.
-ghost use Rattle.std.specs.Prelude.{◌≡◌, ◌+◌, ◌≤◌};
+ghost use Rattle.std.specs.Prelude.{◌≡◌, ◌+◌, ◌-◌, ◌≤◌};
 ghost use Rattle.allocation.specs.Splits.{guaranteed, others_share, matched, clean_up, nothing_trades, stop_rest, match_between, match_rest, rest_by, split, taken};
 
 use crate::order::{ContraTerms, GuaranteeKind};
@@ -65,6 +65,21 @@ fn clean(left: u64, part: u64, asked: u64) -> Rest
     Rest {
         contra: first + (left - first - others),
         others,
+    }
+}
+
+impl Progress {
+    // Behind a level that was split so.
+    pub(crate) fn past(self, split: &Split) -> Progress
+        requires within { taken split.now ≤ self.left }
+        requires most { self.left + self.so_far ≤ 100000 }
+        ensures left { result.left ≡ self.left - taken split.now }
+        ensures so_far { result.so_far ≡ self.so_far + split.now.contra }
+    {
+        Progress {
+            left: self.left - (split.customers + (split.contra + split.others)),
+            so_far: self.so_far + split.contra,
+        }
     }
 }
 

@@ -71,17 +71,13 @@ impl ShareOut<'_> {
     {
         let (_, behind) = self.arranged.split_at(walk.next);
         let plan = LevelPlan::at_front(&self.terms, price, &behind, walk.progress);
-        let split = plan.split;
         let end = walk.at + plan.row_count();
         plan.write_rows(self.side, &mut rows[walk.at..end]);
         Walk {
             own: walk.own.filter(|own| *own != price),
             next: walk.next + (plan.customers.responses.len() + plan.others.responses.len()),
             at: end,
-            progress: Progress {
-                left: walk.progress.left - (split.customers + (split.contra + split.others)),
-                so_far: walk.progress.so_far + split.contra,
-            },
+            progress: walk.progress.past(&plan.split),
         }
     }
 
