@@ -135,7 +135,7 @@ near_dealt k t odd [] = tt
 near_dealt k t odd (s ∷ ss) =
     (elim (cases_lt 0 odd) [ inl h ↦ inr (omega arith) | inr h ↦ inl (omega arith) ], near_dealt k t (odd - 1) ss)
 
-each_same : (R : ℕ → ℕ → Type 0) → ((s : ℕ) → R s s) → (ss : List ℕ) → AllZip R ss ss
+pub each_same : (R : ℕ → ℕ → Type 0) → ((s : ℕ) → R s s) → (ss : List ℕ) → AllZip R ss ss
 each_same R r [] = tt
 each_same R r (s ∷ ss) = (r s, each_same R r ss)
 

@@ -1,13 +1,14 @@
 -- To walk arranged responses by the lowest price that is still to come is to go through the levels one by one: each turn
 -- meets the next level, and what is walked is the fill list.
 use Rattle.std.proofs.Common.{◌≡◌, ℕ, zero, suc, ◌+◌, ◌-◌, ◌<◌, ◌≤◌, Bool, true, false, not, ◌⊎◌, List, [], ◌∷◌, ◌++◌, length, take, drop, ℤ, ◌≤ℤ◌, ◌<ℤ◌, Some, None, Option, unwrap_or, sym, refl, ap, ◌∙◌, subst, inl, inr, arith}
+use Rattle.allocation.proofs.Mates.{same_class_self, same_price_self}
 use borrow.Author.Differences.{ints}
 use lib.Signed.{lt_z}
 use Rattle.std.specs.List.{AllByRecursion}
 use Rattle.std.specs.Option.{option_map}
 use Rattle.std.proofs.ByRecursion.{All-weaker, All-append}
 use Rattle.std.proofs.lemmas.List.{take_at, drop_at, drop-drop}
-use Rattle.std.proofs.lemmas.Bool.{cond_both, cond-true, cond-false, both_ways, not-true, not_from_true, not_from_false, and_parts, and_from, and_left, and_right}
+use Rattle.std.proofs.lemmas.Bool.{cond_both, cond-true, cond-false, both_ways, not-true, not_from_true, and_parts, and_from, and_left, and_right}
 use Rattle.market.specs.declared.side.Side.{Side}
 use Rattle.allocation.specs.declared.fill.FillRow.{FillRow}
 use Rattle.allocation.specs.declared.order.ContraTerms.{ContraTerms}
@@ -20,7 +21,7 @@ use Rattle.allocation.specs.Levels.{Level, place, levels, flat}
 use Rattle.allocation.specs.LevelSteps.{stands_at, leading, next_price, counted_level, front_level}
 use Rattle.allocation.specs.Splits.{taken}
 use Rattle.allocation.specs.Walk.{still_to_come, behind_level, walked}
-use Rattle.allocation.proofs.LevelFacts.{holds_levels, ascending_levels, filled_or_contra, among_levels}
+use Rattle.allocation.proofs.LevelFacts.{above_flat, holds_levels, ascending_levels, filled_or_contra, among_levels}
 use Rattle.allocation.proofs.LevelShape.{At, Holds, Ascending, Among}
 
 -- What is still to come of the contra's own price: it is among the levels, and below them once it is gone.
@@ -40,7 +41,7 @@ ends_there contra (Some own) w = absurd w.due.1
 ends_there contra None w = refl
 
 same_from_equal : (a b : ℤ) → a ≡ b → same_price a b ≡ true
-same_from_equal a b e = and_from (not (lt_z a b)) (not (lt_z b a)) (not_from_false (lt_z a b) (grind (arith, ints))) (not_from_false (lt_z b a) (grind (arith, ints)))
+same_from_equal a b e = subst (λ z. same_price a z ≡ true) e (same_price_self a)
 
 equal_from_same : (a b : ℤ) → same_price a b ≡ true → a ≡ b
 equal_from_same a b e =
@@ -48,19 +49,6 @@ equal_from_same a b e =
     let up : lt_z a b ≡ false = not-true (lt_z a b) both.0 in
     let down : lt_z b a ≡ false = not-true (lt_z b a) both.1 in
     grind (arith, ints)
-
--- what is below all levels is below all that they hold
-below_flat : (low : ℤ) (ls : List Level) → AllByRecursion (λ (k : Level). low <ℤ k.price) ls → AllByRecursion Holds ls → AllByRecursion (λ (x : Response). low <ℤ x.price) (flat ls)
-below_flat low [] up hs = tt
-below_flat low (l ∷ ls) (below, up) (h, hs) =
-    All-append Above l.customers (l.others ++ flat ls) (raised Customer l.customers h.customers_here)
-    (All-append Above l.others (flat ls) (raised Other l.others h.others_here) (below_flat low ls up hs))
-  where
-    Above : Response → Type 0
-    Above x = low <ℤ x.price
-
-    raised : (c : Class) (xs : List Response) → AllByRecursion (At l.price c) xs → AllByRecursion (λ (x : Response). low <ℤ x.price) xs
-    raised c xs a = All-weaker (At l.price c) (λ (x : Response). low <ℤ x.price) (λ x at. subst (λ p. low <ℤ p) (sym at.0) below) xs a
 
 -- the first level is not above the contra's own, where that is among them
 lowest_first : (own : ℤ) (l : Level) (ls : List Level) → Ascending (l ∷ ls) → Among own (l ∷ ls) → l.price ≤ℤ own
@@ -107,7 +95,7 @@ next_first contra price own [] [] rest a b up near (inr some) = absurd (omega ar
 pub first_price : (contra : ℤ) (own : Option ℤ) (l : Level) (ls : List Level) → Walkable contra own (l ∷ ls) → next_price own (flat (l ∷ ls)) ≡ Some l.price
 first_price contra own l ls w =
     next_first contra l.price own l.customers l.others (flat ls)
-    w.holds.0.customers_here w.holds.0.others_here (below_flat l.price ls w.ascending.0 w.holds.1)
+    w.holds.0.customers_here w.holds.0.others_here (above_flat l.price ls w.ascending.0 w.holds.1)
     (near_first contra own l ls w) w.none_empty.0
 
 -- behind a level stand the levels that follow it
@@ -133,11 +121,7 @@ walkable_rest contra own l ls w = record {
         (λ apart. (e, elim among [ inl here ↦ absurd (both_ways (same_price l.price own) apart (same_from_equal l.price own (here ∙ sym e))) | inr later ↦ later ]))
 
 stands_there : (price : ℤ) (c : Class) (x : Response) → At price c x → stands_at price c x ≡ true
-stands_there price c x (e, is) = and_from (same_class c x.class) (same_price price x.price) (subst (λ d. same_class c d ≡ true) (sym is) (itself c)) (same_from_equal price x.price (sym e))
-  where
-    itself : (d : Class) → same_class d d ≡ true
-    itself Customer = refl
-    itself Other = refl
+stands_there price c x (e, is) = and_from (same_class c x.class) (same_price price x.price) (subst (λ d. same_class c d ≡ true) (sym is) (same_class_self c)) (same_from_equal price x.price (sym e))
 
 stands_above : (price : ℤ) (c : Class) (x : Response) → price <ℤ x.price → stands_at price c x ≡ false
 stands_above price c x h =
@@ -174,7 +158,7 @@ first_level l ls (h, hs) (up, _) =
     all = l.customers ++ rest
 
     above : (c : Class) → AllByRecursion (λ (x : Response). stands_at l.price c x ≡ false) (flat ls)
-    above c = All-weaker (λ (x : Response). l.price <ℤ x.price) (λ (x : Response). stands_at l.price c x ≡ false) (stands_above l.price c) (flat ls) (below_flat l.price ls up hs)
+    above c = All-weaker (λ (x : Response). l.price <ℤ x.price) (λ (x : Response). stands_at l.price c x ≡ false) (stands_above l.price c) (flat ls) (above_flat l.price ls up hs)
 
     customers : leading l.price Customer all ≡ length l.customers
     customers =

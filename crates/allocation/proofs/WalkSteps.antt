@@ -1,6 +1,6 @@
 -- One step of the walk: what the code measures is the level that the walk is at, and the step goes on behind it.
 use Rattle.std.proofs.Common.{◌≡◌, ℕ, zero, suc, ◌+◌, ◌-◌, ◌*◌, ◌<◌, ◌≤◌, min, Bool, true, false, cond, ◌&&◌, ltb, leb, ◌⊎◌, List, [], ◌∷◌, ◌++◌, length, take, drop, ℤ, Some, None, Option, is_some, sym, refl, ap, ◌∙◌, subst, inl, inr, ⊎_elim, append_assoc, arith, length-append}
-use borrow.Author.Differences.{ints}
+use Rattle.allocation.proofs.Mates.{same_price_self}
 use lib.ListN.{length-map}
 use lib.Signed.{lt_z}
 use Rattle.std.proofs.lemmas.List.{length-take, length-take-le, drop-drop, append-nil, take-append-drop}
@@ -44,13 +44,10 @@ pub record Underway (side : Side) (t : ContraTerms) (xs : List Response) (old al
   pub so_written : take w.at rows ++ walked turns side t w.own (drop w.next xs) w.progress.left w.progress.so_far ≡ all
   pub untouched : drop w.at rows ≡ drop w.at old
 
-same_price_refl : (z : ℤ) → same_price z z ≡ true
-same_price_refl z = grind (arith, ints)
-
 -- a response stands at the front of its own price
 leads : (c : Class) (x : Response) (xs : List Response) → same_class c x.class ≡ true → 0 < leading x.price c (x ∷ xs)
 leads c x xs h =
-    let here : stands_at x.price c x ≡ true = rw (h, same_price_refl x.price) in
+    let here : stands_at x.price c x ≡ true = rw (h, same_price_self x.price) in
     let one : leading x.price c (x ∷ xs) ≡ suc (leading x.price c xs) = rw here in
     omega arith
 
@@ -81,7 +78,7 @@ moves_on (Some own) [] price h =
     inr (h, ap (still_to_come (Some own)) (sym here) ∙ gone own)
   where
     gone : (z : ℤ) → still_to_come (Some z) z ≡ None
-    gone z = rw (same_price_refl z) refl
+    gone z = rw (same_price_self z) refl
 moves_on None [] price h = absurd (none_is_some h)
   where
     none_is_some : ◌≡◌ {A = Option ℤ} None (Some price) → ⊥
@@ -92,7 +89,7 @@ moves_on None (x ∷ xs) price h =
 moves_on (Some own) (x ∷ xs) price h = go (lt_z own x.price) refl
   where
     gone : (z : ℤ) → still_to_come (Some z) z ≡ None
-    gone z = rw (same_price_refl z) refl
+    gone z = rw (same_price_self z) refl
 
     go : (b : Bool) → lt_z own x.price ≡ b → (0 < length (front_level price (x ∷ xs)).customers + length (front_level price (x ∷ xs)).others) ⊎ ((Some own ≡ Some price) × (still_to_come (Some own) price ≡ None))
     go true e =

@@ -1,6 +1,9 @@
-use Rattle.std.proofs.Common.{◌≡◌, List, take, sym, subst, arith}
+use Rattle.std.proofs.Common.{◌≡◌, Bool, true, not, List, take, sym, subst, arith}
+use Rattle.std.specs.Prelude.{◌≢◌}
+use Rattle.allocation.specs.declared.auction.Auction.{Auction}
 use Rattle.allocation.specs.declared.fill.FillRow.{FillRow}
-use Rattle.allocation.specs.Auction.{auction_values, auction_fills}
+use Rattle.allocation.specs.declared.response.Key.{Key}
+use Rattle.allocation.specs.Auction.{auction_values, auction_fills, LevelsInRankingOrder}
 use Rattle.allocation.specs.FillLaws.{FillLaws}
 use Rattle.allocation.specs.Rankings.{by_key}
 use Rattle.allocation.specs.Table.{standing}
@@ -8,15 +11,17 @@ use Rattle.allocation.proofs.FillProved.{terms_hold, fill_list_lawful, written_f
 use Rattle.allocation.proofs.LevelFacts.{ordered_classes}
 use Rattle.allocation.proofs.auction.Auction.fill.Goals as goal
 
+-- arrivals differ, so each class of each level is in ranking order
+in_ranking_order : (rank : Key → Key → Bool) → ((x y : Key) → x.arrival ≢ y.arrival → rank x y ≡ not (rank y x)) → ((x y z : Key) → rank x y ≡ true → rank y z ≡ true → rank x z ≡ true) → (a : Auction) → LevelsInRankingOrder (by_key rank) (auction_values a)
+in_ranking_order rank one_ahead carries_on a = ordered_classes rank one_ahead carries_on _ (standing a.table) (are_apart (standing a.table) a.apart)
+
 pub returns-then-rows-lt-LEAST_ROWS-clause-ranked : goal.returns-then-rows-lt-LEAST_ROWS-clause-ranked
 returns-then-rows-lt-LEAST_ROWS-clause-ranked g c =
-    let a = c.args.self.now in
-    ordered_classes (g.R.Ranking.ahead c.args.ranking.now) (g.met.R.Ranking.one_ahead c.args.ranking.now) (g.met.R.Ranking.carries_on c.args.ranking.now) _ (standing a.table) (are_apart (standing a.table) a.apart)
+    in_ranking_order (g.R.Ranking.ahead c.args.ranking.now) (g.met.R.Ranking.one_ahead c.args.ranking.now) (g.met.R.Ranking.carries_on c.args.ranking.now) c.args.self.now
 
 pub returns-clause-ranked : goal.returns-clause-ranked
 returns-clause-ranked g c =
-    let a = c.args.self.now in
-    ordered_classes (g.R.Ranking.ahead c.args.ranking.now) (g.met.R.Ranking.one_ahead c.args.ranking.now) (g.met.R.Ranking.carries_on c.args.ranking.now) _ (standing a.table) (are_apart (standing a.table) a.apart)
+    in_ranking_order (g.R.Ranking.ahead c.args.ranking.now) (g.met.R.Ranking.one_ahead c.args.ranking.now) (g.met.R.Ranking.carries_on c.args.ranking.now) c.args.self.now
 
 pub returns-clause-laws : goal.returns-clause-laws
 returns-clause-laws g c =
