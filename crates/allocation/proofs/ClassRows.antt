@@ -13,7 +13,7 @@ use Rattle.allocation.specs.FillLaws.{Told, response_told, row_told, of_response
 use Rattle.allocation.specs.FillList.{fill_row, class_rows, shared_rows}
 use Rattle.allocation.specs.Shares.{sizes, total, shared}
 use Rattle.allocation.proofs.LevelShape.{At}
-use Rattle.allocation.proofs.ShareFacts.{Fair, fair_shared}
+use Rattle.allocation.proofs.ShareFacts.{Fair, fair_shared, each_same}
 
 -- what holds of each response with its share holds of each row
 rows_all : (side : Side) (P : FillRow → Type 0) (Q : Response → Type 0) (R : ℕ → ℕ → Type 0) → ((x : Response) (f : ℕ) → Q x → R x.size f → P (fill_row side x f)) → (xs : List Response) (fs : List ℕ) → AllByRecursion Q xs → AllZip R (sizes xs) fs → AllByRecursion P (class_rows side xs fs)
@@ -45,10 +45,6 @@ pub rows_none : (rows : List FillRow) → filled_in rows ≡ 0 → AllByRecursio
 rows_none [] e = tt
 rows_none (f ∷ fs) e = (omega arith, rows_none fs (omega arith))
 
-each_same : (ss : List ℕ) → AllZip (λ s f. f ≡ s) ss ss
-each_same [] = tt
-each_same (s ∷ ss) = (refl, each_same ss)
-
 each_both : (R S : ℕ → ℕ → Type 0) (ss fs : List ℕ) → AllZip R ss fs → AllZip S ss fs → AllZip (λ s f. R s f × S s f) ss fs
 each_both R S [] [] a b = tt
 each_both R S [] (f ∷ fs) a b = absurd a
@@ -78,7 +74,7 @@ class_laws side price c k xs here members some le = record {
   near = rows_all side (ProRata k n) (λ x. 0 < x.size) both near_row xs fs some nears;
   lack = elim (cases_lt k n) [
     | inl less ↦ rows_all side (λ f. 0 < f.left → k < n) (λ x. 0 < x.size) over (λ x f _ _ _. less) xs fs some each
-    | inr all ↦ rows_all side (λ f. 0 < f.left → k < n) (λ x. 0 < x.size) (λ s f. f ≡ s) (λ x f _ e h. absurd (omega arith)) xs fs some (subst (λ (gs : List ℕ). AllZip (λ s f. f ≡ s) (sizes xs) gs) (sym (fair.full all)) (each_same (sizes xs)))
+    | inr all ↦ rows_all side (λ f. 0 < f.left → k < n) (λ x. 0 < x.size) (λ s f. f ≡ s) (λ x f _ e h. absurd (omega arith)) xs fs some (subst (λ (gs : List ℕ). AllZip (λ s f. f ≡ s) (sizes xs) gs) (sym (fair.full all)) (each_same (λ s f. f ≡ s) (λ _. refl) (sizes xs)))
   ];
   nothing = λ e. rows_none (class_rows side xs fs) (filled ∙ e);
 }

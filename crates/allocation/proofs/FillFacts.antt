@@ -1,6 +1,7 @@
 -- The laws of a fill list hold of what the definition gives: each level's rows have them, levels are told apart by price,
 -- and nothing is left for later levels where a response lacks something or the contra's own price is passed.
 use Rattle.std.proofs.Common.{◌≡◌, ℕ, ◌+◌, ◌-◌, ◌<◌, true, false, ◌⊎◌, List, [], ◌∷◌, ◌++◌, map, ℤ, ◌≤ℤ◌, ◌<ℤ◌, sym, refl, ap, ◌∙◌, subst, inl, inr, arith}
+use Rattle.std.proofs.lemmas.List.Sorted.{IsPermutation-map}
 use borrow.Author.Differences.{ints}
 use Rattle.std.specs.List.{AllByRecursion}
 use Rattle.std.specs.List.Sorted.{IsPermutation}
@@ -22,7 +23,7 @@ use Rattle.allocation.proofs.ClassRows.{rows_none}
 use Rattle.allocation.proofs.LevelRows.{Stands, LevelLaws, level_laws}
 use Rattle.allocation.proofs.LevelShape.{Holds, Ascending, Among}
 use Rattle.allocation.proofs.Mates.{turned_twice, mate, mate_above, mate_below, near_mates}
-use Rattle.allocation.proofs.RowLists.{kept_append, kept_none, sum_append, all_both, all_always, all_left, all_right, all_pairs, pairs_append, shuffled_map}
+use Rattle.allocation.proofs.RowLists.{kept_append, kept_none, sum_append, all_both, all_always, all_left, all_right, all_pairs, pairs_append}
 use Rattle.allocation.proofs.SplitFacts.{Reached, SplitLaws, split_laws}
 
 -- Nothing is left, or the contra's own price is still to come.
@@ -261,7 +262,7 @@ pub fills_lawful : (side : Side) (t : ContraTerms) (size : ℕ) (floor : ℤ) (s
     → (floor ≤ℤ contra_level t.guarantee.kind t) → (t.guarantee.price ≤ℤ t.initiating)
     → FillLaws side size floor t.initiating stood (fills side t ls size 0)
 fills_lawful side t size floor stood ls holds up among shuffled st low high = record {
-  each_once = subst (λ (ts : List Told). IsPermutation (map (response_told side) stood) ts) (sym (fills_told side t floor low high ls size 0 holds st)) (shuffled_map (response_told side) stood (flat ls) shuffled);
+  each_once = subst (λ (ts : List Told). IsPermutation (map (response_told side) stood) ts) (sym (fills_told side t floor low high ls size 0 holds st)) (IsPermutation-map (response_told side) stood (flat ls) shuffled);
   others_contra = fills_contras side t floor low high ls size 0 holds st;
   whole_size = fills_filled side t floor low high ls size 0 holds st (inr among);
   in_range = fills_in_range side t floor low high ls size 0 holds up st (inr among);

@@ -1,5 +1,5 @@
 -- What the code writes is the fill list of the auction, and the fill list keeps its laws.
-use Rattle.std.proofs.Common.{◌≡◌, ℕ, ◌+◌, ◌<◌, ◌≤◌, Bool, true, false, not, ◌&&◌, eqb, ltb, leb, List, [], ◌∷◌, ◌++◌, length, take, drop, ℤ, ◌≤ℤ◌, Some, Ok, Err, sym, refl, ap, ◌∙◌, arith, length-append}
+use Rattle.std.proofs.Common.{◌≡◌, ℕ, ◌+◌, ◌<◌, ◌≤◌, Bool, true, not, ◌&&◌, eqb, leb, List, [], ◌∷◌, ◌++◌, length, take, drop, ℤ, ◌≤ℤ◌, Some, sym, refl, ap, ◌∙◌, arith, length-append}
 use borrow.Author.Differences.{ints}
 use lib.Signed.{le_z}
 use Rattle.std.proofs.lemmas.List.{take_at, drop_at}
@@ -14,10 +14,8 @@ use Rattle.allocation.specs.declared.order.ContraTerms.{ContraTerms}
 use Rattle.allocation.specs.declared.order.GuaranteeKind.{GuaranteeKind}
 use Rattle.allocation.specs.declared.order.GuaranteeKind.TheVariants.{SingleStop, AutoMatchLimit}
 use Rattle.allocation.specs.declared.order.PairedOrder.{PairedOrder}
-use Rattle.allocation.specs.declared.refusal.FillRefusal.TheVariants.{ListTooShort}
 use Rattle.allocation.specs.declared.response.Response.{Response}
 use Rattle.allocation.specs.Arranged.{arranged}
-use Rattle.allocation.specs.Auction.{fill_answer, rows_after}
 use Rattle.allocation.specs.AuctionInvariant.{from_to, stop_ok, range_ok, guarantee_ok, terms_ok, response_ok, each, arrival_free, arrivals_apart}
 use Rattle.allocation.specs.FillLaws.{FillLaws}
 use Rattle.allocation.specs.FillList.{fills, fill_list, contra_terms}
@@ -37,14 +35,14 @@ sound_arranged ahead xs h =
 
 -- walking the arranged responses writes the fills of their levels
 pub walked_levels : (ahead : Response → Response → Bool) (side : Side) (t : ContraTerms) (xs ys : List Response) (size : ℕ) → ys ≡ arranged ahead xs
-    → walked (length ys + 1) side t (contra_level t.guarantee.kind t) true ys size 0 ≡ fills side t (levels ahead (contra_level t.guarantee.kind t) xs) size 0
+    → walked (length ys + 1) side t (Some (contra_level t.guarantee.kind t)) ys size 0 ≡ fills side t (levels ahead (contra_level t.guarantee.kind t) xs) size 0
 walked_levels ahead side t xs ys size e =
     let own : ℤ = contra_level t.guarantee.kind t in
     let ls = levels ahead own xs in
     let flat_is : flat ls ≡ ys = flat_arranged ahead own xs ∙ sym e in
     let long : length ys ≡ length xs = ap length e ∙ length_permutation xs (arranged ahead xs) (shuffled_arranged ahead xs) in
     let few : length ls ≤ length ys + 1 = omega (arith, few_levels ahead own xs) in
-    ap (λ zs. walked (length ys + 1) side t own true zs size 0) (sym flat_is) ∙ walked_is_fills (length ys + 1) side t own true ls size 0 few (walkable_levels ahead own xs)
+    ap (λ zs. walked (length ys + 1) side t (Some own) zs size 0) (sym flat_is) ∙ walked_is_fills (length ys + 1) side t own (Some own) ls size 0 few (walkable_levels ahead own xs)
 
 -- a price between two that can be turned can be turned
 between : (low z high : ℤ) → showable (Some low) ≡ true → showable (Some high) ≡ true → le_z low z ≡ true → le_z z high ≡ true → showable (Some z) ≡ true
@@ -79,18 +77,6 @@ terms_hold order floor initiating h =
 own_in_range : (k : GuaranteeKind) (price floor initiating : ℤ) (t : ContraTerms) → t.guarantee.price ≡ price → t.initiating ≡ initiating → le_z floor initiating ≡ true → le_z price initiating ≡ true → stop_ok k floor price ≡ true → le_z floor (contra_level k t) ≡ true
 own_in_range SingleStop price floor initiating t e f a b c = ap (le_z floor) e ∙ c
 own_in_range AutoMatchLimit price floor initiating t e f a b c = ap (le_z floor) f ∙ a
-
-own_most : (k : GuaranteeKind) (price initiating : ℤ) (t : ContraTerms) → t.guarantee.price ≡ price → t.initiating ≡ initiating → le_z price initiating ≡ true → le_z initiating initiating ≡ true → le_z (contra_level k t) initiating ≡ true
-own_most SingleStop price initiating t e f a r = ap (λ z. le_z z initiating) e ∙ a
-own_most AutoMatchLimit price initiating t e f a r = ap (λ z. le_z z initiating) f ∙ r
-
-pub own_shown : (order : PairedOrder) (floor initiating : ℤ) (n : ℕ) → Terms order floor initiating → showable (Some (contra_level order.guarantee.kind (contra_terms order initiating n))) ≡ true
-own_shown order floor initiating n h =
-    let t : ContraTerms = contra_terms order initiating n in
-    let self : le_z initiating initiating ≡ true = grind (arith, ints) in
-    let low = own_in_range order.guarantee.kind order.guarantee.price floor initiating t refl refl h.in_order h.guaranteed_at h.stop_at in
-    let high = own_most order.guarantee.kind order.guarantee.price initiating t refl refl h.guaranteed_at self in
-    between floor (contra_level order.guarantee.kind t) initiating h.floor_shown h.initiating_shown low high
 
 -- what holds of a response that stands
 one_stands : (size : ℕ) (floor initiating : ℤ) (x : Response) → response_ok size floor initiating x ≡ true → (0 < x.member) × (1 ≤ x.size) × (x.size ≤ size) × (le_z floor x.price ≡ true) × (le_z x.price initiating ≡ true)
@@ -134,13 +120,7 @@ pub fill_list_lawful : (ahead : Response → Response → Bool) (order : PairedO
     → FillLaws order.side order.size floor initiating stood (fill_list ahead order initiating stood)
 fill_list_lawful ahead order floor initiating stood h e = fill_list_in_order ahead order floor initiating stood h.in_order h.guaranteed_at h.stop_at e
 
--- an accepted call's answer, rows and front, from what was written
-pub answer_is : (fs rows : List FillRow) (n : ℕ) → ltb (length rows) 129 ≡ false → n ≡ length fs → Ok n ≡ fill_answer fs rows
-answer_is fs rows n h e = rw h (ap Ok e)
-
-pub rows_are : (fs rows new : List FillRow) (n : ℕ) → ltb (length rows) 129 ≡ false → n ≡ length fs → new ≡ fs ++ drop n rows → new ≡ rows_after fs rows
-rows_are fs rows new n h e k = rw h (k ∙ ap (λ m. fs ++ drop m rows) e)
-
+-- the front and the rest of what an accepted call wrote
 pub written_front : (fs rows new : List FillRow) (n : ℕ) → n ≡ length fs → new ≡ fs ++ drop n rows → take n new ≡ fs
 written_front fs rows new n e k = ap (take n) k ∙ take_at fs (drop n rows) n (sym e)
 
@@ -148,9 +128,6 @@ pub written_past : (fs rows new : List FillRow) (n : ℕ) → n ≡ length fs �
 written_past fs rows new n e k =
     let long : length new ≡ length fs + length (drop n rows) = ap length k ∙ length-append fs (drop n rows) in
     (omega arith, ap (drop n) k ∙ drop_at fs (drop n rows) n (sym e))
-
-pub refused_is : (fs rows : List FillRow) → ltb (length rows) 129 ≡ true → (Err ListTooShort ≡ fill_answer fs rows) × (rows ≡ rows_after fs rows)
-refused_is fs rows h = (rw h, rw h)
 
 -- arrivals that a test finds apart are apart
 apart_each : (x : Response) (xs : List Response) → arrival_free x.arrival xs ≡ true → AllByRecursion (λ (y : Response). x.arrival ≡ y.arrival → ⊥) xs

@@ -1,6 +1,7 @@
 -- What levels are: each holds its own, prices ascend, the contra's price is among them; level by level they hold the
 -- same responses, in the order in which rows are written.
 use Rattle.std.proofs.Common.{◌≡◌, ◌<◌, Bool, true, false, cond, not, ◌⊎◌, List, [], ◌∷◌, ◌++◌, length, ℤ, ◌<ℤ◌, sym, refl, ap, ◌∙◌, subst, inl, inr, arith, length-append}
+use Rattle.allocation.proofs.RowLists.{all_left, all_right, all_both}
 use borrow.Author.Differences.{ints}
 use lib.Signed.{lt_z}
 use Rattle.std.specs.List.{AllByRecursion}
@@ -46,20 +47,15 @@ put_among f g x (y ∷ ys) zs (e, alike) later = rw e (go (g x y) (put_among f g
     go true ih = refl
     go false ih = ap (λ r. y ∷ r) ih
 
-all_parts : (P : Response → Type 0) (xs ys : List Response) → AllByRecursion P (xs ++ ys) → AllByRecursion P xs × AllByRecursion P ys
-all_parts P [] ys a = (tt, a)
-all_parts P (x ∷ xs) ys (p, a) = let both = all_parts P xs ys a in ((p, both.0), both.1)
-
 -- what holds of all responses holds of each level's
 pub all_classes : (P : Response → Type 0) (ls : List Level) → AllByRecursion P (flat ls) → AllByRecursion (λ (l : Level). AllByRecursion P l.customers × AllByRecursion P l.others) ls
 all_classes P [] a = tt
 all_classes P (l ∷ ls) a =
-    let first = all_parts P l.customers (l.others ++ flat ls) a in
-    let rest = all_parts P l.others (flat ls) first.1 in
-    ((first.0, rest.0), all_classes P ls rest.1)
+    let rest = all_right P l.customers (l.others ++ flat ls) a in
+    ((all_left P l.customers (l.others ++ flat ls) a, all_left P l.others (flat ls) rest), all_classes P ls (all_right P l.others (flat ls) rest))
 
 -- what is below all levels is below all that they hold
-above_flat : (low : ℤ) (ls : List Level) → AllByRecursion (λ (k : Level). low <ℤ k.price) ls → AllByRecursion Holds ls → AllByRecursion (λ (y : Response). low <ℤ y.price) (flat ls)
+pub above_flat : (low : ℤ) (ls : List Level) → AllByRecursion (λ (k : Level). low <ℤ k.price) ls → AllByRecursion Holds ls → AllByRecursion (λ (y : Response). low <ℤ y.price) (flat ls)
 above_flat low [] up hs = tt
 above_flat low (l ∷ ls) (below, up) (h, hs) =
     All-append Above l.customers (l.others ++ flat ls) (raised Customer l.customers h.customers_here)
@@ -259,10 +255,6 @@ NotWith x y = x.arrival ≡ y.arrival → ⊥
 abbrev WithNone : Response → Level → Type 0
 WithNone x l = AllByRecursion (NotWith x) l.customers × AllByRecursion (NotWith x) l.others
 
-all_both : (P Q : Level → Type 0) (ls : List Level) → AllByRecursion P ls → AllByRecursion Q ls → AllByRecursion (λ (l : Level). P l × Q l) ls
-all_both P Q [] a b = tt
-all_both P Q (l ∷ ls) (p, a) (q, b) = ((p, q), all_both P Q ls a b)
-
 module _ (rank : Key → Key → Bool) (one_ahead : (x y : Key) → (x.arrival ≡ y.arrival → ⊥) → rank x y ≡ not (rank y x)) (carries_on : (x y z : Key) → rank x y ≡ true → rank y z ≡ true → rank x z ≡ true) where
   ordered_put : (x : Response) (ys : List Response) → AllByRecursion (NotWith x) ys → Ordered (by_key rank) ys → Ordered (by_key rank) (put (by_key rank) x ys)
   ordered_put x [] apart o = (tt, tt)
@@ -288,4 +280,4 @@ module _ (rank : Key → Key → Bool) (one_ahead : (x y : Key) → (x.arrival �
       (ordered_join x (empty_level x.price) (tt, tt) (tt, tt))
       (λ l _ k. ordered_join x l k.0 k.1)
       (λ l k. k.1)
-      ls (all_both (WithNone x) (BothOrdered (by_key rank)) ls none (ordered_classes contra xs a))
+      ls (all_both (WithNone x) (BothOrdered (by_key rank)) (λ (l : Level). WithNone x l × BothOrdered (by_key rank) l) (λ _ w o. (w, o)) ls none (ordered_classes contra xs a))

@@ -9,7 +9,6 @@ mod LevelRows
 mod FillFacts
 mod Writes
 mod Puts
-mod Runs
 mod WalkSteps
 mod WalkFacts
 pub mod FillProved

@@ -15,11 +15,11 @@ pub turned_twice : (side : Side) (z : ℤ) → turned side (turned side z) ≡ z
 turned_twice Buy z = refl
 turned_twice Sell z = grind (arith, ints)
 
-same_class_self : (c : Class) → same_class c c ≡ true
+pub same_class_self : (c : Class) → same_class c c ≡ true
 same_class_self Customer = refl
 same_class_self Other = refl
 
-same_price_self : (a : ℤ) → same_price a a ≡ true
+pub same_price_self : (a : ℤ) → same_price a a ≡ true
 same_price_self a = let no : lt_z a a ≡ false = grind (arith, ints) in and_from (not (lt_z a a)) (not (lt_z a a)) (not_from_false (lt_z a a) no) (not_from_false (lt_z a a) no)
 
 price_above : (side : Side) (a b : ℤ) → turned side a <ℤ turned side b → same_price a b ≡ false

@@ -1,9 +1,7 @@
--- Lists of rows: what a test keeps, sums, pairs of rows of two lists, and lists with the same elements under a map.
-use Rattle.std.proofs.Common.{◌≡◌, ℕ, zero, suc, ◌+◌, Bool, true, false, cond, List, [], ◌∷◌, ◌++◌, map, get_or, set, sym, refl, ap, ◌∙◌, subst, arith}
-use Rattle.std.specs.List.{AllByRecursion, swap}
-use Rattle.std.specs.List.Sorted.{IsPermutation, apply_swaps, SwapsInRange}
+-- Lists of rows: what a test keeps, sums, what holds of each, and pairs of rows of two lists.
+use Rattle.std.proofs.Common.{◌≡◌, ℕ, ◌+◌, Bool, true, false, cond, List, [], ◌∷◌, ◌++◌, map, refl, ap, ◌∙◌, arith}
+use Rattle.std.specs.List.{AllByRecursion}
 use Rattle.std.proofs.ByRecursion.{All-append}
-use Rattle.std.proofs.lemmas.List.{length-map, map-set}
 use Rattle.allocation.specs.FillLaws.{kept}
 use Rattle.allocation.specs.Shares.{total}
 
@@ -56,30 +54,3 @@ module _ {X : Type 0} where
       All-append (λ x. AllByRecursion (R x) (xs ++ ys)) xs ys
       (all_both (λ x. AllByRecursion (R x) xs) (λ x. AllByRecursion (R x) ys) (λ x. AllByRecursion (R x) (xs ++ ys)) (λ x a b. All-append (R x) xs ys a b) xs xx xy)
       (all_both (λ x. AllByRecursion (R x) xs) (λ x. AllByRecursion (R x) ys) (λ x. AllByRecursion (R x) (xs ++ ys)) (λ x a b. All-append (R x) xs ys a b) ys yx yy)
-
-module _ {X Y : Type 0} (f : X → Y) where
-  getD_map_at : (xs : List X) (i : ℕ) (d : X) → f (get_or xs i d) ≡ get_or (map f xs) i (f d)
-  getD_map_at [] i d = refl
-  getD_map_at (x ∷ xs) zero d = refl
-  getD_map_at (x ∷ xs) (suc i) d = getD_map_at xs i d
-
-  map_exchanged : (xs : List X) (i j : ℕ) → map f (swap xs i j) ≡ swap (map f xs) i j
-  map_exchanged [] i j = refl
-  map_exchanged (d ∷ ys) i j =
-      let l : List X = d ∷ ys in
-      let m : List Y = map f l in
-      map-set f (set l i (get_or l j d)) j (get_or l i d)
-      ∙ ap (λ (z : List Y). set z j (f (get_or l i d))) (map-set f l i (get_or l j d))
-      ∙ ap (λ (y : Y). set (set m i y) j (f (get_or l i d))) (getD_map_at l j d)
-      ∙ ap (λ (y : Y). set (set m i (get_or m j (f d))) j y) (getD_map_at l i d)
-
-  map_moved : (xs : List X) (ms : List (ℕ × ℕ)) → map f (apply_swaps xs ms) ≡ apply_swaps (map f xs) ms
-  map_moved xs [] = refl
-  map_moved xs (m ∷ ms) = map_exchanged (apply_swaps xs ms) m.0 m.1 ∙ ap (λ (l : List Y). swap l m.0 m.1) (map_moved xs ms)
-
-  pub shuffled_map : (xs ys : List X) → IsPermutation xs ys → IsPermutation (map f xs) (map f ys)
-  shuffled_map xs ys h = record {
-    moves = h.moves;
-    below = subst (λ n. SwapsInRange n h.moves) (sym (length-map xs f)) h.below;
-    is = ap (map f) h.is ∙ map_moved xs h.moves;
-  }

@@ -1,10 +1,14 @@
 -- What the shares of responses come to: in all as many as there are, none above its size, each the part by size rounded
 -- down or one more.
-use Rattle.std.proofs.Common.{◌≡◌, ℕ, suc, ◌+◌, ◌-◌, ◌*◌, ◌/◌, ◌<◌, ◌≤◌, min, leb, ◌⊎◌, List, [], ◌∷◌, length, sym, refl, ap, subst, inl, inr, mul_comm, div-lt_iff_lt-mul, add-mul, lt_of_mul-lt-mul_right, mul-add, div-mul-le_self, le_of_mul-le-mul_right, arith}
+use Rattle.std.proofs.Common.{◌≡◌, ℕ, suc, ◌+◌, ◌-◌, ◌*◌, ◌/◌, ◌<◌, ◌≤◌, min, leb, ◌⊎◌, List, [], ◌∷◌, map, length, get_or, sum, sym, refl, ap, ◌∙◌, subst, inl, inr, mul_comm, div-lt_iff_lt-mul, add-mul, lt_of_mul-lt-mul_right, mul-add, div-mul-le_self, le_of_mul-le-mul_right, arith}
 use native.Mathlib.Nat.{lt-div-mul-add, mul-lt-mul_of_pos_left, mul-div_cancel_left}
 use Rattle.std.specs.List.{AllZip, AllByRecursion}
 use Rattle.std.proofs.lemmas.Bool.{leb-true, leb-false, cond_both, cases_lt}
-use Rattle.allocation.specs.Shares.{total, parts_total, dealt, shared}
+use Rattle.std.proofs.lemmas.List.Recursion.{is_sum_by}
+use Rattle.std.proofs.lemmas.List.Sums.{sum-map, get_or-le-sum_by}
+use Rattle.allocation.specs.declared.response.Response.{Response}
+use Rattle.allocation.specs.LevelSteps.{Sized}
+use Rattle.allocation.specs.Shares.{sizes, total, parts_total, dealt, shared}
 
 -- Shares fs of k contracts among sizes ss.
 pub record Fair (k : ℕ) (ss fs : List ℕ) : Type 0 where
@@ -13,6 +17,17 @@ pub record Fair (k : ℕ) (ss fs : List ℕ) : Type 0 where
   pub none_over : AllZip (λ s f. f ≤ s) ss fs
   pub near : AllZip (λ s f. (f ≡ min k (total ss) * s / total ss) ⊎ (f ≡ min k (total ss) * s / total ss + 1)) ss fs
   pub full : total ss ≤ k → fs ≡ ss
+
+-- the totals, as std adds up
+pub total_is : (ss : List ℕ) → total ss ≡ sum ss
+total_is = is_sum_by total (λ s. s) refl (λ _ _. refl)
+
+pub parts_total_is : (k t : ℕ) (xs : List Response) → parts_total k t (sizes xs) ≡ sum (map (λ (x : Response). k * x.size / t) xs)
+parts_total_is k t xs = is_sum_by (λ ys. parts_total k t (sizes ys)) (λ (x : Response). k * x.size / t) refl (λ _ _. refl) xs ∙ sym (sum-map (λ (x : Response). k * x.size / t) xs)
+
+pub total_most : (xs : List Response) → AllByRecursion Sized xs → total (sizes xs) ≤ 100000 * length xs
+total_most [] h = omega arith
+total_most (x ∷ xs) (s, a) = omega (arith, total_most xs a)
 
 pub length_dealt : (k t odd : ℕ) (ss : List ℕ) → length (dealt k t odd ss) ≡ length ss
 length_dealt k t odd [] = refl
@@ -58,6 +73,59 @@ part_below k t s h p =
     let less : k * s < s * t = omega (arith, mul-lt-mul_of_pos_left {k = s} h p, mul_comm k s) in
     (div-lt_iff_lt-mul {k = t} {x = k * s} {y = s} (omega arith)).1 less
 
+pub size_within : (xs : List Response) (i : ℕ) (d : Response) → i < length xs → (get_or xs i d).size ≤ total (sizes xs)
+size_within xs i d h = omega (arith, is_sum_by (λ ys. total (sizes ys)) (λ (x : Response). x.size) refl (λ _ _. refl) xs, get_or-le-sum_by (λ (x : Response). x.size) xs i d h)
+
+-- where all can be had, each part is the whole size
+pub parts_all : (t : ℕ) (ss : List ℕ) → 0 < t → parts_total t t ss ≡ total ss
+parts_all t [] p = refl
+parts_all t (s ∷ ss) p = omega (arith, parts_all t ss p, mul-div_cancel_left s {n = t} p)
+
+pub dealt_all : (t : ℕ) (ss : List ℕ) → 0 < t → dealt t t 0 ss ≡ ss
+dealt_all t [] p = refl
+dealt_all t (s ∷ ss) p =
+    let head : t * s / t + 0 ≡ s = omega (arith, mul-div_cancel_left s {n = t} p) in
+    let rest = dealt_all t ss p in
+    cc
+
+-- what can be had is enough for the parts, and leaves none odd where it is enough for all
+pub parts_within : (k : ℕ) (xs : List Response) → AllByRecursion Sized xs → k ≤ total (sizes xs) → parts_total k (total (sizes xs)) (sizes xs) ≤ k
+parts_within k [] a h = omega arith
+parts_within k (x ∷ xs) (s, a) h = le_of_mul-le-mul_right (parts_below k (total (sizes (x ∷ xs))) (sizes (x ∷ xs))) (omega (arith, s.0))
+
+pub none_odd : (xs : List Response) → AllByRecursion Sized xs → total (sizes xs) - parts_total (total (sizes xs)) (total (sizes xs)) (sizes xs) ≡ 0
+none_odd [] a = refl
+none_odd (x ∷ xs) (s, a) = omega (arith, parts_all (total (sizes (x ∷ xs))) (sizes (x ∷ xs)) (omega (arith, s.0)))
+
+-- to share is to deal what can be had
+shared_dealt : (k : ℕ) (xs : List Response) → AllByRecursion Sized xs → shared k (sizes xs) ≡ dealt (min k (total (sizes xs))) (total (sizes xs)) (min k (total (sizes xs)) - parts_total (min k (total (sizes xs))) (total (sizes xs)) (sizes xs)) (sizes xs)
+shared_dealt k xs a =
+    let ss : List ℕ = sizes xs in
+    let t : ℕ = total ss in
+    cond_both (leb t k) ss (dealt k t (k - parts_total k t ss) ss) (λ fs. fs ≡ dealt (min k t) t (min k t - parts_total (min k t) t ss) ss)
+    (λ e. let le = leb-true t k e in let all : min k t ≡ t = omega arith in rw all (full xs a))
+    (λ e. let lt = leb-false t k e in let all : min k t ≡ k = omega arith in rw all refl)
+  where
+    full : (ys : List Response) → AllByRecursion Sized ys → sizes ys ≡ dealt (total (sizes ys)) (total (sizes ys)) (total (sizes ys) - parts_total (total (sizes ys)) (total (sizes ys)) (sizes ys)) (sizes ys)
+    full [] h = refl
+    full (y ∷ ys) (s, h) =
+        let ss : List ℕ = sizes (y ∷ ys) in
+        sym (dealt_all (total ss) ss (omega (arith, s.0))) ∙ ap (λ odd. dealt (total ss) (total ss) odd ss) (sym (none_odd (y ∷ ys) (s, h)))
+
+pub shared_min : (k : ℕ) (xs : List Response) → AllByRecursion Sized xs → shared (min k (total (sizes xs))) (sizes xs) ≡ shared k (sizes xs)
+shared_min k xs a =
+    let ss : List ℕ = sizes xs in
+    let t : ℕ = total ss in
+    let same : min (min k t) t ≡ min k t = omega arith in
+    shared_dealt (min k t) xs a ∙ ap (λ n. dealt n t (n - parts_total n t ss) ss) same ∙ sym (shared_dealt k xs a)
+
+pub dealt_within : (k : ℕ) (xs : List Response) → AllByRecursion Sized xs → k ≤ total (sizes xs) → dealt k (total (sizes xs)) (k - parts_total k (total (sizes xs)) (sizes xs)) (sizes xs) ≡ shared k (sizes xs)
+dealt_within k xs a h =
+    let ss : List ℕ = sizes xs in
+    let t : ℕ = total ss in
+    let same : k ≡ min k t = omega arith in
+    ap (λ n. dealt n t (n - parts_total n t ss) ss) same ∙ sym (shared_dealt k xs a)
+
 pub none_over_dealt : (k t odd : ℕ) (ss : List ℕ) → k < t → AllByRecursion (λ s. 0 < s) ss → AllZip (λ s f. f ≤ s) ss (dealt k t odd ss)
 none_over_dealt k t odd [] h a = tt
 none_over_dealt k t odd (s ∷ ss) h (p, a) = (omega (arith, part_below k t s h p), none_over_dealt k t (odd - 1) ss h a)
@@ -67,7 +135,7 @@ near_dealt k t odd [] = tt
 near_dealt k t odd (s ∷ ss) =
     (elim (cases_lt 0 odd) [ inl h ↦ inr (omega arith) | inr h ↦ inl (omega arith) ], near_dealt k t (odd - 1) ss)
 
-each_same : (R : ℕ → ℕ → Type 0) → ((s : ℕ) → R s s) → (ss : List ℕ) → AllZip R ss ss
+pub each_same : (R : ℕ → ℕ → Type 0) → ((s : ℕ) → R s s) → (ss : List ℕ) → AllZip R ss ss
 each_same R r [] = tt
 each_same R r (s ∷ ss) = (r s, each_same R r ss)
 

@@ -1,12 +1,14 @@
 -- To walk arranged responses by the lowest price that is still to come is to go through the levels one by one: each turn
 -- meets the next level, and what is walked is the fill list.
-use Rattle.std.proofs.Common.{◌≡◌, ℕ, zero, suc, ◌+◌, ◌-◌, ◌<◌, ◌≤◌, Bool, true, false, not, ◌⊎◌, List, [], ◌∷◌, ◌++◌, length, take, drop, ℤ, ◌≤ℤ◌, ◌<ℤ◌, sym, refl, ap, ◌∙◌, subst, inl, inr, arith}
+use Rattle.std.proofs.Common.{◌≡◌, ℕ, zero, suc, ◌+◌, ◌-◌, ◌<◌, ◌≤◌, Bool, true, false, not, ◌⊎◌, List, [], ◌∷◌, ◌++◌, length, take, drop, ℤ, ◌≤ℤ◌, ◌<ℤ◌, Some, None, Option, unwrap_or, sym, refl, ap, ◌∙◌, subst, inl, inr, arith}
+use Rattle.allocation.proofs.Mates.{same_class_self, same_price_self}
 use borrow.Author.Differences.{ints}
 use lib.Signed.{lt_z}
 use Rattle.std.specs.List.{AllByRecursion}
+use Rattle.std.specs.Option.{option_map}
 use Rattle.std.proofs.ByRecursion.{All-weaker, All-append}
 use Rattle.std.proofs.lemmas.List.{take_at, drop_at, drop-drop}
-use Rattle.std.proofs.lemmas.Bool.{cond_both, cond-true, cond-false, both_ways, not-true, not-false, not_from_true, not_from_false, and_parts, and_cases, and_from, and_left, and_right}
+use Rattle.std.proofs.lemmas.Bool.{cond_both, cond-true, cond-false, both_ways, not-true, not_from_true, and_parts, and_from, and_left, and_right}
 use Rattle.market.specs.declared.side.Side.{Side}
 use Rattle.allocation.specs.declared.fill.FillRow.{FillRow}
 use Rattle.allocation.specs.declared.order.ContraTerms.{ContraTerms}
@@ -18,28 +20,28 @@ use Rattle.allocation.specs.FillList.{fills, level_rows, split_at}
 use Rattle.allocation.specs.Levels.{Level, place, levels, flat}
 use Rattle.allocation.specs.LevelSteps.{stands_at, leading, next_price, counted_level, front_level}
 use Rattle.allocation.specs.Splits.{taken}
-use Rattle.allocation.specs.Walk.{at_end, still_pending, behind_level, walked}
-use Rattle.allocation.proofs.LevelFacts.{holds_levels, ascending_levels, filled_or_contra, among_levels}
+use Rattle.allocation.specs.Walk.{still_to_come, behind_level, walked}
+use Rattle.allocation.proofs.LevelFacts.{above_flat, holds_levels, ascending_levels, filled_or_contra, among_levels}
 use Rattle.allocation.proofs.LevelShape.{At, Holds, Ascending, Among}
 
--- Levels that are still to be walked. The contra's own is among them while it is pending, and below them afterwards.
-pub record Walkable (own : ℤ) (pending : Bool) (ls : List Level) : Type 0 where
+-- What is still to come of the contra's own price: it is among the levels, and below them once it is gone.
+abbrev pub Due : ℤ → Option ℤ → List Level → Type 0
+Due contra None ls = AllByRecursion (λ (l : Level). contra <ℤ l.price) ls
+Due contra (Some own) ls = (own ≡ contra) × Among contra ls
+
+-- Levels that are still to be walked.
+pub record Walkable (contra : ℤ) (own : Option ℤ) (ls : List Level) : Type 0 where
   pub holds : AllByRecursion Holds ls
   pub ascending : Ascending ls
-  pub none_empty : AllByRecursion (λ (l : Level). (l.price ≡ own) ⊎ (0 < length (l.customers ++ l.others))) ls
-  pub to_come : pending ≡ true → Among own ls
-  pub gone_by : pending ≡ false → AllByRecursion (λ (l : Level). own <ℤ l.price) ls
+  pub none_empty : AllByRecursion (λ (l : Level). (l.price ≡ contra) ⊎ (0 < length (l.customers ++ l.others))) ls
+  pub due : Due contra own ls
 
-pub none_pending : (own : ℤ) (pending : Bool) → Walkable own pending [] → pending ≡ false
-none_pending own true w = absurd (w.to_come refl)
-none_pending own false w = refl
-
-pub ends_there : (own : ℤ) (pending : Bool) → Walkable own pending [] → at_end pending (flat []) ≡ true
-ends_there own true w = absurd (w.to_come refl)
-ends_there own false w = refl
+ends_there : (contra : ℤ) (own : Option ℤ) → Walkable contra own [] → next_price own (flat []) ≡ None
+ends_there contra (Some own) w = absurd w.due.1
+ends_there contra None w = refl
 
 same_from_equal : (a b : ℤ) → a ≡ b → same_price a b ≡ true
-same_from_equal a b e = and_from (not (lt_z a b)) (not (lt_z b a)) (not_from_false (lt_z a b) (grind (arith, ints))) (not_from_false (lt_z b a) (grind (arith, ints)))
+same_from_equal a b e = subst (λ z. same_price a z ≡ true) e (same_price_self a)
 
 equal_from_same : (a b : ℤ) → same_price a b ≡ true → a ≡ b
 equal_from_same a b e =
@@ -47,19 +49,6 @@ equal_from_same a b e =
     let up : lt_z a b ≡ false = not-true (lt_z a b) both.0 in
     let down : lt_z b a ≡ false = not-true (lt_z b a) both.1 in
     grind (arith, ints)
-
--- what is below all levels is below all that they hold
-below_flat : (low : ℤ) (ls : List Level) → AllByRecursion (λ (k : Level). low <ℤ k.price) ls → AllByRecursion Holds ls → AllByRecursion (λ (x : Response). low <ℤ x.price) (flat ls)
-below_flat low [] up hs = tt
-below_flat low (l ∷ ls) (below, up) (h, hs) =
-    All-append Above l.customers (l.others ++ flat ls) (raised Customer l.customers h.customers_here)
-    (All-append Above l.others (flat ls) (raised Other l.others h.others_here) (below_flat low ls up hs))
-  where
-    Above : Response → Type 0
-    Above x = low <ℤ x.price
-
-    raised : (c : Class) (xs : List Response) → AllByRecursion (At l.price c) xs → AllByRecursion (λ (x : Response). low <ℤ x.price) xs
-    raised c xs a = All-weaker (At l.price c) (λ (x : Response). low <ℤ x.price) (λ x at. subst (λ p. low <ℤ p) (sym at.0) below) xs a
 
 -- the first level is not above the contra's own, where that is among them
 lowest_first : (own : ℤ) (l : Level) (ls : List Level) → Ascending (l ∷ ls) → Among own (l ∷ ls) → l.price ≤ℤ own
@@ -71,45 +60,43 @@ lowest_first own l ls up (inr later) = above ls up.0 later
     above (k ∷ ks) (a, rest) (inl here) = grind (arith, ints)
     above (k ∷ ks) (a, rest) (inr later) = above ks rest later
 
+-- The contra's own price is not below this one while it is still to come, and below it once it is gone.
+abbrev Near : ℤ → Option ℤ → ℤ → Type 0
+Near contra None price = contra <ℤ price
+Near contra (Some own) price = (own ≡ contra) × (price ≤ℤ contra)
+
+near_first : (contra : ℤ) (own : Option ℤ) (l : Level) (ls : List Level) → Walkable contra own (l ∷ ls) → Near contra own l.price
+near_first contra None l ls w = w.due.0
+near_first contra (Some own) l ls w = (w.due.0, lowest_first contra l ls w.ascending w.due.1)
+
 -- a response at the lowest price is the next
-next_here : (own price : ℤ) (pending : Bool) (x : Response) (xs : List Response) → x.price ≡ price → (pending ≡ true → price ≤ℤ own) → next_price pending own (x ∷ xs) ≡ price
-next_here own price true x xs e low = let under : price ≤ℤ own = low refl in cond_both (lt_z own x.price) own x.price (λ z. z ≡ price) (λ t. grind (arith, ints)) (λ _. e)
-next_here own price false x xs e low = e
+next_here : (contra price : ℤ) (own : Option ℤ) (x : Response) (xs : List Response) → x.price ≡ price → Near contra own price → next_price own (x ∷ xs) ≡ Some price
+next_here contra price (Some own) x xs e near = ap Some (cond_both (lt_z own x.price) own x.price (λ z. z ≡ price) (λ t. grind (arith, ints)) (λ _. e))
+next_here contra price None x xs e near = ap Some e
 
 -- the contra's own price is the next before all that stand above it
-next_own : (own : ℤ) (xs : List Response) → AllByRecursion (λ (x : Response). own <ℤ x.price) xs → next_price true own xs ≡ own
+next_own : (own : ℤ) (xs : List Response) → AllByRecursion (λ (x : Response). own <ℤ x.price) xs → next_price (Some own) xs ≡ Some own
 next_own own [] up = refl
-next_own own (x ∷ xs) (up, _) = cond_both (lt_z own x.price) own x.price (λ z. z ≡ own) (λ _. refl) (λ f. grind (arith, ints))
+next_own own (x ∷ xs) (up, _) = ap Some (cond_both (lt_z own x.price) own x.price (λ z. z ≡ own) (λ _. refl) (λ f. grind (arith, ints)))
 
-next_first : (own price : ℤ) (pending : Bool) (cs os rest : List Response)
+next_first : (contra price : ℤ) (own : Option ℤ) (cs os rest : List Response)
     → AllByRecursion (At price Customer) cs → AllByRecursion (At price Other) os → AllByRecursion (λ (x : Response). price <ℤ x.price) rest
-    → (pending ≡ true → price ≤ℤ own) → (pending ≡ false → own <ℤ price) → (price ≡ own) ⊎ (0 < length (cs ++ os))
-    → next_price pending own (cs ++ (os ++ rest)) ≡ price
-next_first own price pending (x ∷ cs) os rest ((e, _), _) b up low gone some = next_here own price pending x (cs ++ (os ++ rest)) e low
-next_first own price pending [] (x ∷ os) rest a ((e, _), _) up low gone some = next_here own price pending x (os ++ rest) e low
-next_first own price true [] [] rest a b up low gone (inl e) = next_own own rest (subst (λ p. AllByRecursion (λ (x : Response). p <ℤ x.price) rest) e up) ∙ sym e
-next_first own price false [] [] rest a b up low gone (inl e) = let over : own <ℤ price = gone refl in absurd (grind (arith, ints))
-next_first own price pending [] [] rest a b up low gone (inr some) = absurd (omega arith)
+    → Near contra own price → (price ≡ contra) ⊎ (0 < length (cs ++ os))
+    → next_price own (cs ++ (os ++ rest)) ≡ Some price
+next_first contra price own (x ∷ cs) os rest ((e, _), _) b up near some = next_here contra price own x (cs ++ (os ++ rest)) e near
+next_first contra price own [] (x ∷ os) rest a ((e, _), _) up near some = next_here contra price own x (os ++ rest) e near
+next_first contra price (Some own) [] [] rest a b up near (inl e) =
+    let here : price ≡ own = e ∙ sym near.0 in
+    next_own own rest (subst (λ p. AllByRecursion (λ (x : Response). p <ℤ x.price) rest) here up) ∙ ap Some (sym here)
+next_first contra price None [] [] rest a b up near (inl e) = absurd (grind (arith, ints))
+next_first contra price own [] [] rest a b up near (inr some) = absurd (omega arith)
 
 -- the lowest price still to come is the first level's
-pub first_price : (own : ℤ) (pending : Bool) (l : Level) (ls : List Level) → Walkable own pending (l ∷ ls) → next_price pending own (flat (l ∷ ls)) ≡ l.price
-first_price own pending l ls w =
-    next_first own l.price pending l.customers l.others (flat ls)
-    w.holds.0.customers_here w.holds.0.others_here (below_flat l.price ls w.ascending.0 w.holds.1)
-    (λ p. lowest_first own l ls w.ascending (w.to_come p)) (λ p. (w.gone_by p).0) w.none_empty.0
-
--- the walk is not at its end before a level
-pub not_at_end : (own : ℤ) (pending : Bool) (l : Level) (ls : List Level) → Walkable own pending (l ∷ ls) → at_end pending (flat (l ∷ ls)) ≡ false
-not_at_end own true l ls w = refl
-not_at_end own false l ls w = more l.customers l.others (elim w.none_empty.0 [ inl e ↦ absurd (apart e) | inr some ↦ some ])
-  where
-    apart : l.price ≡ own → ⊥
-    apart e = let over : own <ℤ l.price = (w.gone_by refl).0 in grind (arith, ints)
-
-    more : (cs os : List Response) → 0 < length (cs ++ os) → at_end false (cs ++ (os ++ flat ls)) ≡ false
-    more (x ∷ cs) os some = refl
-    more [] (x ∷ os) some = refl
-    more [] [] some = absurd (omega arith)
+pub first_price : (contra : ℤ) (own : Option ℤ) (l : Level) (ls : List Level) → Walkable contra own (l ∷ ls) → next_price own (flat (l ∷ ls)) ≡ Some l.price
+first_price contra own l ls w =
+    next_first contra l.price own l.customers l.others (flat ls)
+    w.holds.0.customers_here w.holds.0.others_here (above_flat l.price ls w.ascending.0 w.holds.1)
+    (near_first contra own l ls w) w.none_empty.0
 
 -- behind a level stand the levels that follow it
 pub behind : (l : Level) (ls : List Level) → behind_level l (flat (l ∷ ls)) ≡ flat ls
@@ -118,35 +105,23 @@ behind l ls =
     ∙ ap (drop (length l.others)) (drop_at l.customers (l.others ++ flat ls) (length l.customers) refl)
     ∙ drop_at l.others (flat ls) (length l.others) refl
 
-pub walkable_rest : (own : ℤ) (pending : Bool) (l : Level) (ls : List Level) → Walkable own pending (l ∷ ls) → Walkable own (still_pending pending own l.price) ls
-walkable_rest own pending l ls w = record {
+pub walkable_rest : (contra : ℤ) (own : Option ℤ) (l : Level) (ls : List Level) → Walkable contra own (l ∷ ls) → Walkable contra (still_to_come own l.price) ls
+walkable_rest contra own l ls w = record {
   holds = w.holds.1;
   ascending = w.ascending.1;
   none_empty = w.none_empty.1;
-  to_come = to_come';
-  gone_by = gone_by';
+  due = due_rest own w.due;
 }
   where
-    to_come' : still_pending pending own l.price ≡ true → Among own ls
-    to_come' e =
-        let both = and_parts pending (not (same_price l.price own)) e in
-        elim (w.to_come both.0) [
-          | inl here ↦ absurd (both_ways (same_price l.price own) (not-true (same_price l.price own) both.1) (same_from_equal l.price own here))
-          | inr later ↦ later
-        ]
-
-    gone_by' : still_pending pending own l.price ≡ false → AllByRecursion (λ (k : Level). own <ℤ k.price) ls
-    gone_by' e = elim (and_cases pending (not (same_price l.price own)) e) [
-      | inl gone ↦ (w.gone_by gone).1
-      | inr same ↦ subst (λ p. AllByRecursion (λ (k : Level). p <ℤ k.price) ls) (equal_from_same l.price own (not-false (same_price l.price own) same)) w.ascending.0
-    ]
+    due_rest : (own : Option ℤ) → Due contra own (l ∷ ls) → Due contra (still_to_come own l.price) ls
+    due_rest None d = d.1
+    due_rest (Some own) (e, among) =
+        cond_both (same_price l.price own) None (Some own) (λ o. Due contra o ls)
+        (λ same. subst (λ p. AllByRecursion (λ (k : Level). p <ℤ k.price) ls) (equal_from_same l.price own same ∙ e) w.ascending.0)
+        (λ apart. (e, elim among [ inl here ↦ absurd (both_ways (same_price l.price own) apart (same_from_equal l.price own (here ∙ sym e))) | inr later ↦ later ]))
 
 stands_there : (price : ℤ) (c : Class) (x : Response) → At price c x → stands_at price c x ≡ true
-stands_there price c x (e, is) = and_from (same_class c x.class) (same_price price x.price) (subst (λ d. same_class c d ≡ true) (sym is) (itself c)) (same_from_equal price x.price (sym e))
-  where
-    itself : (d : Class) → same_class d d ≡ true
-    itself Customer = refl
-    itself Other = refl
+stands_there price c x (e, is) = and_from (same_class c x.class) (same_price price x.price) (subst (λ d. same_class c d ≡ true) (sym is) (same_class_self c)) (same_from_equal price x.price (sym e))
 
 stands_above : (price : ℤ) (c : Class) (x : Response) → price <ℤ x.price → stands_at price c x ≡ false
 stands_above price c x h =
@@ -183,7 +158,7 @@ first_level l ls (h, hs) (up, _) =
     all = l.customers ++ rest
 
     above : (c : Class) → AllByRecursion (λ (x : Response). stands_at l.price c x ≡ false) (flat ls)
-    above c = All-weaker (λ (x : Response). l.price <ℤ x.price) (λ (x : Response). stands_at l.price c x ≡ false) (stands_above l.price c) (flat ls) (below_flat l.price ls up hs)
+    above c = All-weaker (λ (x : Response). l.price <ℤ x.price) (λ (x : Response). stands_at l.price c x ≡ false) (stands_above l.price c) (flat ls) (above_flat l.price ls up hs)
 
     customers : leading l.price Customer all ≡ length l.customers
     customers =
@@ -204,36 +179,29 @@ first_level l ls (h, hs) (up, _) =
     counted : List Response → ℕ → Level
     counted xs n = with_classes (take (length l.customers) all) (take n xs)
 
--- the walk meets the first level
-meets_first : (own : ℤ) (pending : Bool) (l : Level) (ls : List Level) → Walkable own pending (l ∷ ls) → front_level (next_price pending own (flat (l ∷ ls))) (flat (l ∷ ls)) ≡ l
-meets_first own pending l ls w = ap (λ p. front_level p (flat (l ∷ ls))) (first_price own pending l ls w) ∙ first_level l ls w.holds w.ascending
+-- one turn at a level, with so many turns behind it
+abbrev turn : Side → ContraTerms → Option ℤ → List Response → ℕ → ℕ → ℕ → Level → List FillRow
+turn side t own xs turns r m k = level_rows side k (split_at t k r m) ++ walked turns side t (still_to_come own k.price) (behind_level k xs) (r - taken (split_at t k r m)) (m + (split_at t k r m).contra)
 
 -- with a turn for each level, what is walked is the fill list
-pub walked_is_fills : (turns : ℕ) (side : Side) (t : ContraTerms) (own : ℤ) (pending : Bool) (ls : List Level) (r m : ℕ) → length ls ≤ turns → Walkable own pending ls → walked turns side t own pending (flat ls) r m ≡ fills side t ls r m
-walked_is_fills zero side t own pending [] r m few w = refl
-walked_is_fills zero side t own pending (l ∷ ls) r m few w = absurd (omega arith)
-walked_is_fills (suc turns) side t own pending [] r m few w = cond-true (at_end pending []) [] _ (ends_there own pending w)
-walked_is_fills (suc turns) side t own pending (l ∷ ls) r m few w =
-    cond-false (at_end pending (flat (l ∷ ls))) [] (rows (front_level (next_price pending own (flat (l ∷ ls))) (flat (l ∷ ls)))) (not_at_end own pending l ls w)
-    ∙ ap rows (meets_first own pending l ls w)
-    ∙ ap (rows_of l) (behind l ls)
+pub walked_is_fills : (turns : ℕ) (side : Side) (t : ContraTerms) (contra : ℤ) (own : Option ℤ) (ls : List Level) (r m : ℕ) → length ls ≤ turns → Walkable contra own ls → walked turns side t own (flat ls) r m ≡ fills side t ls r m
+walked_is_fills zero side t contra own [] r m few w = refl
+walked_is_fills zero side t contra own (l ∷ ls) r m few w = absurd (omega arith)
+walked_is_fills (suc turns) side t contra own [] r m few w = ap (λ o. unwrap_or (option_map (λ price. turn side t own [] turns r m (front_level price [])) o) []) (ends_there contra own w)
+walked_is_fills (suc turns) side t contra own (l ∷ ls) r m few w =
+    ap (λ o. unwrap_or (option_map (λ price. turn side t own (flat (l ∷ ls)) turns r m (front_level price (flat (l ∷ ls)))) o) []) (first_price contra own l ls w)
+    ∙ ap (turn side t own (flat (l ∷ ls)) turns r m) (first_level l ls w.holds w.ascending)
+    ∙ ap (λ xs. level_rows side l (split_at t l r m) ++ walked turns side t (still_to_come own l.price) xs (r - taken (split_at t l r m)) (m + (split_at t l r m).contra)) (behind l ls)
     ∙ ap (λ fs. level_rows side l (split_at t l r m) ++ fs)
-    (walked_is_fills turns side t own (still_pending pending own l.price) ls (r - taken (split_at t l r m)) (m + (split_at t l r m).contra) (omega arith) (walkable_rest own pending l ls w))
-  where
-    rows_of : Level → List Response → List FillRow
-    rows_of k xs = level_rows side k (split_at t k r m) ++ walked turns side t own (still_pending pending own k.price) xs (r - taken (split_at t k r m)) (m + (split_at t k r m).contra)
-
-    rows : Level → List FillRow
-    rows k = rows_of k (behind_level k (flat (l ∷ ls)))
+    (walked_is_fills turns side t contra (still_to_come own l.price) ls (r - taken (split_at t l r m)) (m + (split_at t l r m).contra) (omega arith) (walkable_rest contra own l ls w))
 
 module _ (ahead : Response → Response → Bool) (own : ℤ) where
-  pub walkable_levels : (xs : List Response) → Walkable own true (levels ahead own xs)
+  pub walkable_levels : (xs : List Response) → Walkable own (Some own) (levels ahead own xs)
   walkable_levels xs = record {
     holds = holds_levels ahead own xs;
     ascending = ascending_levels ahead own xs;
     none_empty = filled_or_contra ahead own xs;
-    to_come = λ _. among_levels ahead own xs;
-    gone_by = λ e. absurd (both_ways true e refl);
+    due = (refl, among_levels ahead own xs);
   }
 
   few_placed : (x : Response) (ls : List Level) → length (place ahead x ls) ≤ length ls + 1

@@ -10,6 +10,7 @@ pub mod Arranged
 pub mod FillList
 pub mod FillLaws
 pub mod LevelSteps
+pub mod Plans
 pub mod Walk
 pub mod Table
 pub mod AuctionInvariant

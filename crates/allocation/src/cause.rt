@@ -2,31 +2,22 @@
 ghost use Rattle.std.specs.Prelude.{◌≡◌};
 ghost use Rattle.allocation.specs.Causes.{cause_letter};
 
-#[derive(Clone, Copy)]
+#[derive(Clone, Copy, PartialEq, Eq, Debug)]
 pub enum EndCause {
-    NextAuction,
-    FloorAboveInitiating,
-    FloorAboveResponse,
-    FloorAboveStop,
-    PlainBelowFloor,
-    ContraBelowGuarantee,
-    Halt,
-    Deadline,
+    NextAuction = b'A' as isize,
+    FloorAboveInitiating = b'B' as isize,
+    FloorAboveResponse = b'C' as isize,
+    FloorAboveStop = b'D' as isize,
+    PlainBelowFloor = b'E' as isize,
+    ContraBelowGuarantee = b'F' as isize,
+    Halt = b'H' as isize,
+    Deadline = b'T' as isize,
 }
 
 impl EndCause {
     pub fn letter(self) -> char
         ensures { result ≡ cause_letter self }
     {
-        match self {
-            EndCause::NextAuction => 'A',
-            EndCause::FloorAboveInitiating => 'B',
-            EndCause::FloorAboveResponse => 'C',
-            EndCause::FloorAboveStop => 'D',
-            EndCause::PlainBelowFloor => 'E',
-            EndCause::ContraBelowGuarantee => 'F',
-            EndCause::Halt => 'H',
-            EndCause::Deadline => 'T',
-        }
+        char::from(self as u8)
     }
 }

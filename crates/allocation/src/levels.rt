@@ -1,16 +1,15 @@
-// Walking the levels: from arranged responses and the contra's own price, level by level, to the rows.
-ghost use Rattle.std.specs.Prelude.{◌≡◌, ◌+◌, ◌≤◌, min, true, ◌++◌, length, Some};
+// Levels: from arranged responses to the customers and the others at one price, what each gets there, and its rows.
+ghost use Rattle.std.specs.Prelude.{◌≡◌, ◌≤◌, true, length, take, drop, Some};
 ghost use Rattle.market.specs.Prices.{showable};
-ghost use Rattle.allocation.specs.FillList.{contra_row, contra_rows, shared_rows, level_rows, split_at, fills};
-ghost use Rattle.allocation.specs.LevelSteps.{stands_at, leading, next_price, front_level, planned_level, plan_rows, Sized, Sound};
-ghost use Rattle.allocation.specs.Levels.{contra_level};
+ghost use Rattle.allocation.specs.FillList.{contra_row, level_rows, split_at};
+ghost use Rattle.allocation.specs.LevelSteps.{stands_at, leading, front_level};
 ghost use Rattle.allocation.specs.Splits.{taken};
 
 use crate::fill::FillRow;
-use crate::order::{ContraTerms, GuaranteeKind};
+use crate::order::ContraTerms;
 use crate::response::{Class, Kind, Response};
-use crate::share::{share_class, total_size};
-use crate::split::{Split, split_level};
+use crate::share::Standing;
+use crate::split::{Asked, Progress, Split};
 use market::side::Side;
 
 // A place where responses may stand.
@@ -20,23 +19,21 @@ pub struct Place {
     pub class: Class,
 }
 
-// One level: its price, how many customers and others stand there, and what each gets.
+// One level: its price, the customers and the others who stand there, and what each gets.
 #[derive(Clone, Copy)]
-pub struct LevelPlan {
+pub(crate) struct LevelPlan<'a> {
     pub price: i64,
-    pub customers: usize,
-    pub others: usize,
+    pub customers: Standing<'a>,
+    pub others: Standing<'a>,
     pub split: Split,
+    ghost shown: { showable (Some price) ≡ true },
+    ghost few: { split.contra ≤ 100000 },
 }
 
 fn is_at(response: &Response, place: &Place) -> bool
     ensures { result ≡ stands_at place.now.price place.now.class response.now }
 {
-    match (place.class, response.class) {
-        (Class::Customer, Class::Other) => false,
-        (Class::Other, Class::Customer) => false,
-        _ => response.price == place.price,
-    }
+    response.class == place.class && response.price == place.price
 }
 
 // How many responses at the front stand at this place.
@@ -44,128 +41,89 @@ fn run_length(responses: &[Response], place: &Place) -> usize
     ensures value { result ≡ leading place.now.price place.now.class responses.now }
     ensures most { result ≤ length responses.now }
 {
-    let mut n = 0;
-    for response in responses {
-        if !is_at(response, place) {
-            return n;
-        }
-        n += 1;
-    }
-    n
+    responses
+        .iter()
+        .take_while(|response| is_at(response, place))
+        .count()
 }
 
-// The contra's own price.
-pub(crate) fn own_price(terms: &ContraTerms) -> i64
-    ensures { result ≡ contra_level terms.now.guarantee.kind terms.now }
-{
-    match terms.guarantee.kind {
-        GuaranteeKind::SingleStop => terms.guarantee.price,
-        GuaranteeKind::AutoMatchLimit => terms.initiating,
+impl<'a> Standing<'a> {
+    // Those at the front that stand at this place, and those behind them.
+    fn split_run(&self, place: &Place) -> (Standing<'a>, Standing<'a>)
+        ensures run { result.0.responses.now ≡ take (leading place.now.price place.now.class self.now.responses.now) self.now.responses.now }
+        ensures behind { result.1.responses.now ≡ drop (leading place.now.price place.now.class self.now.responses.now) self.now.responses.now }
+    {
+        self.split_at(run_length(self.responses, place))
     }
 }
 
-// The lowest price that is still to come.
-pub(crate) fn price_to_come(pending: bool, own: i64, responses: &[Response]) -> i64
-    ensures { result ≡ next_price pending own responses.now }
-{
-    match responses {
-        [] => own,
-        [first, ..] => {
-            if pending {
-                first.price.min(own)
-            } else {
-                first.price
-            }
-        }
-    }
-}
+impl<'a> LevelPlan<'a> {
+    ghost use Rattle.allocation.specs.Plans.{planned_level, plan_rows};
 
-fn row_of_contra(side: Side, price: i64, filled: u32) -> FillRow
-    requires { showable (Some price) ≡ true }
-    ensures { result ≡ contra_row side price filled }
-{
-    FillRow {
-        price: side.turn(price),
-        member: 0,
-        own: 0,
-        class: Class::Other,
-        kind: Kind::Plain,
-        filled,
-        left: 0,
-    }
-}
-
-// The level at the front of arranged responses, and what each gets there.
-pub(crate) fn plan_level(
-    terms: &ContraTerms,
-    price: i64,
-    responses: &[Response],
-    left: u64,
-    so_far: u64,
-) -> LevelPlan
-    requires { Sound responses.now }
-    ensures level { planned_level result responses.now ≡ front_level price responses.now }
-    ensures within { result.customers + result.others ≤ length responses.now }
-    ensures least { taken result.split ≤ left }
-    ensures split { result.split ≡ split_at terms.now (front_level price responses.now) left so_far }
-{
-    let customers = run_length(
-        responses,
-        &Place {
+    // The level of this price at the front of arranged responses, and what each gets there.
+    pub(crate) fn at_front(
+        terms: &ContraTerms,
+        price: i64,
+        arranged: &Standing<'a>,
+        progress: Progress,
+    ) -> LevelPlan<'a>
+        requires price { showable (Some price) ≡ true }
+        requires left { progress.left ≤ 100000 }
+        ensures level { planned_level result ≡ front_level price arranged.now.responses.now }
+        ensures split { result.split ≡ split_at terms.now (front_level price arranged.now.responses.now) progress.left progress.so_far }
+        ensures least { taken result.split ≤ progress.left }
+    {
+        let (customers, behind) = arranged.split_run(&Place {
             price,
             class: Class::Customer,
-        },
-    );
-    let (first, behind) = responses.split_at(customers);
-    let others = run_length(
-        behind,
-        &Place {
+        });
+        let (others, _) = behind.split_run(&Place {
             price,
             class: Class::Other,
-        },
-    );
-    let (second, _) = behind.split_at(others);
-    let asked_first = total_size(first);
-    let asked = total_size(second);
-    LevelPlan {
-        price,
-        customers,
-        others,
-        split: split_level(terms, price, left, so_far, asked_first, asked),
+        });
+        let asked = Asked {
+            customers: customers.total_size(),
+            others: others.total_size(),
+        };
+        LevelPlan {
+            price,
+            customers,
+            others,
+            split: terms.split(price, progress, asked),
+        }
     }
-}
 
-// The contra's row, if it gets any, and then the others' rows.
-fn fill_behind_customers(side: Side, plan: &LevelPlan, others: &[Response], rows: &mut [FillRow])
-    requires others { Sound others.now }
-    requires price { showable (Some plan.now.price) ≡ true }
-    requires contra { plan.now.split.contra ≤ 100000 }
-    requires rows { length rows.old ≡ min plan.now.split.contra 1 + length others.now }
-    ensures { rows.new ≡ contra_rows side plan.now.price plan.now.split.contra ++ shared_rows side plan.now.split.others others.now }
-{
-    let contra = plan.split.contra;
-    if contra > 0 {
-        rows[0] = row_of_contra(side, plan.price, contra as u32);
-        let end = rows.len();
-        share_class(side, plan.split.others, others, &mut rows[1..end]);
-    } else {
-        share_class(side, plan.split.others, others, rows);
+    // One row for each response, and one for the contra if it gets any.
+    pub(crate) fn row_count(&self) -> usize
+        ensures { result ≡ plan_rows self.now }
+    {
+        self.customers.responses.len()
+            + (self.split.contra.min(1) as usize + self.others.responses.len())
     }
-}
 
-// Writes the rows of one level, all of them and no others.
-pub(crate) fn fill_level(side: Side, plan: &LevelPlan, responses: &[Response], rows: &mut [FillRow])
-    requires responses { Sound responses.now }
-    requires within { plan.now.customers + plan.now.others ≤ length responses.now }
-    requires price { showable (Some plan.now.price) ≡ true }
-    requires contra { plan.now.split.contra ≤ 100000 }
-    requires rows { length rows.old ≡ plan_rows plan.now }
-    ensures { rows.new ≡ level_rows side (planned_level plan.now responses.now) plan.now.split }
-{
-    let (customers, behind) = responses.split_at(plan.customers);
-    let (others, _) = behind.split_at(plan.others);
-    let count = plan.customers;
-    share_class(side, plan.split.customers, customers, &mut rows[0..count]);
-    let end = rows.len();
-    fill_behind_customers(side, plan, others, &mut rows[count..end]);
+    fn row_of_contra(&self, side: Side) -> FillRow
+        ensures { result ≡ contra_row side self.now.price self.now.split.contra }
+    {
+        FillRow {
+            price: side.turn(self.price),
+            member: 0,
+            own: 0,
+            class: Class::Other,
+            kind: Kind::Plain,
+            filled: self.split.contra as u32,
+            left: 0,
+        }
+    }
+
+    // Writes the level's rows, all of them and no others: the customers', the contra's if it gets any, and the others'.
+    pub(crate) fn write_rows(&self, side: Side, rows: &mut [FillRow])
+        requires { length rows.old ≡ plan_rows self.now }
+        ensures { rows.new ≡ level_rows side (planned_level self.now) self.now.split }
+    {
+        let (customers, behind) = rows.split_at_mut(self.customers.responses.len());
+        let (contra, others) = behind.split_at_mut(self.split.contra.min(1) as usize);
+        self.customers.share(side, self.split.customers, customers);
+        contra.fill(self.row_of_contra(side));
+        self.others.share(side, self.split.others, others);
+    }
 }

@@ -38,10 +38,6 @@ impl Ranking for LargerSize {
     fn is_ahead(&self, x: Key, y: Key) -> bool
         ensures { result ≡ larger x y }
     {
-        if x.size == y.size {
-            EarlierArrival.is_ahead(x, y)
-        } else {
-            y.size < x.size
-        }
+        y.size.cmp(&x.size).then(x.arrival.cmp(&y.arrival)).is_lt()
     }
 }

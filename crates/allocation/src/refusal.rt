@@ -2,17 +2,15 @@
 ghost use Rattle.std.specs.Prelude.{◌≡◌};
 ghost use Rattle.allocation.specs.Refusals.{fill_number};
 
-#[derive(Clone, Copy)]
+#[derive(Clone, Copy, PartialEq, Eq, Debug)]
 pub enum FillRefusal {
-    ListTooShort,
+    ListTooShort = 6,
 }
 
 impl FillRefusal {
     pub fn number(self) -> u8
         ensures { result ≡ fill_number self }
     {
-        match self {
-            FillRefusal::ListTooShort => 6,
-        }
+        self as u8 // 6
     }
 }

@@ -1,47 +1,30 @@
 // Sharing contracts among the responses of one class at one price, which stand in ranking order.
-ghost use Rattle.std.specs.Prelude.{◌≡◌, ◌+◌, ◌-◌, ◌*◌, ◌/◌, ◌<◌, ◌≤◌, true, length, Some};
+ghost use Rattle.std.specs.Prelude.{◌≡◌, ◌*◌, ◌/◌, ◌<◌, ◌≤◌, true, length, take, drop, Some};
+ghost use Rattle.std.proofs.Props.{props};
 ghost use Rattle.market.specs.Prices.{showable};
-ghost use Rattle.market.specs.Turned.{turned};
-ghost use Rattle.allocation.specs.FillList.{fill_row, class_rows, shared_rows};
+ghost use Rattle.allocation.specs.FillList.{fill_row, shared_rows};
 ghost use Rattle.allocation.specs.LevelSteps.{Sized, Sound};
-ghost use Rattle.allocation.specs.Shares.{sizes, total, parts_total, dealt};
+ghost use Rattle.allocation.specs.Shares.{sizes, total, parts_total};
 
 use crate::fill::FillRow;
 use crate::response::Response;
 use market::side::Side;
 
-// The sizes of the responses, added up.
-pub(crate) fn total_size(responses: &[Response]) -> u64
-    requires { Sound responses.now }
-    ensures value { result ≡ total (sizes responses.now) }
-    ensures most { result ≤ 6400000 }
-{
-    let mut sum: u64 = 0;
-    for response in responses {
-        sum += u64::from(response.size);
-    }
-    sum
+// At most 64 responses, each of 1 to 100,000 contracts at a price that can be turned.
+#[derive(Clone, Copy)]
+pub(crate) struct Standing<'a> {
+    pub responses: &'a [Response],
+    ghost sound: { Sound responses.now } by { Prim.hlevel props },
 }
 
-// The whole contracts that fall to a size: its part of `k` by all sizes, rounded down.
-fn whole_part(k: u64, all: u64, size: u32) -> u64
-    requires { (k < all) × ((all ≤ 6400000) × ((1 ≤ size) × (size ≤ 100000))) }
-    ensures value { result ≡ k * size / all }
-    ensures below { result < size }
-{
-    k * u64::from(size) / all
-}
-
-// These, added up.
-fn whole_parts(k: u64, all: u64, responses: &[Response]) -> u64
-    requires { (Sound responses.now) × ((k < all) × (all ≤ 6400000)) }
-    ensures { result ≡ parts_total k all (sizes responses.now) }
-{
-    let mut sum: u64 = 0;
-    for response in responses {
-        sum += whole_part(k, all, response.size);
-    }
-    sum
+// Contracts that are dealt among responses by size: no more than these ask for in all.
+#[derive(Clone, Copy)]
+struct Deal<'a> {
+    among: Standing<'a>,
+    contracts: u64,
+    asked: u64,
+    ghost all: { asked ≡ total (sizes among.responses.now) },
+    ghost within: { contracts ≤ asked },
 }
 
 // The row of a response that got so many contracts.
@@ -61,41 +44,82 @@ fn row_of(side: Side, response: &Response, filled: u32) -> FillRow
     }
 }
 
-// Fills each response whole.
-fn fill_whole(side: Side, responses: &[Response], rows: &mut [FillRow])
-    requires { (Sound responses.now) × (length rows.old ≡ length responses.now) }
-    ensures { rows.new ≡ class_rows side responses.now (sizes responses.now) }
-{
-    for i in 0..responses.len() {
-        let response = responses[i];
-        rows[i] = row_of(side, &response, response.size);
+impl<'a> Standing<'a> {
+    // Those before a number of them, and those from there on.
+    pub(crate) fn split_at(&self, n: usize) -> (Standing<'a>, Standing<'a>)
+        requires { n ≤ length self.now.responses.now }
+        ensures front { result.0.responses.now ≡ take n self.now.responses.now }
+        ensures behind { result.1.responses.now ≡ drop n self.now.responses.now }
+    {
+        let (front, behind) = self.responses.split_at(n);
+        (
+            Standing { responses: front },
+            Standing { responses: behind },
+        )
+    }
+
+    // The sizes, added up.
+    pub(crate) fn total_size(&self) -> u64
+        ensures value { result ≡ total (sizes self.now.responses.now) }
+        ensures most { result ≤ 6400000 }
+    {
+        self.responses
+            .iter()
+            .map(|response| u64::from(response.size))
+            .sum()
+    }
+
+    // Shares `k` contracts among the responses and writes their rows. Where `k` is enough for all, each part is the whole
+    // size.
+    pub(crate) fn share(&self, side: Side, k: u64, rows: &mut [FillRow])
+        requires { length rows.old ≡ length self.now.responses.now }
+        ensures { rows.new ≡ shared_rows side k self.now.responses.now }
+    {
+        let asked = self.total_size();
+        let deal = Deal {
+            among: *self,
+            contracts: k.min(asked),
+            asked,
+        };
+        deal.write_rows(side, rows);
     }
 }
 
-// Deals each response its whole contracts by size, and to each of the first `odd` one more.
-fn deal(side: Side, k: u64, all: u64, mut odd: u64, responses: &[Response], rows: &mut [FillRow])
-    requires { (Sound responses.now) × ((length rows.old ≡ length responses.now) × ((k < all) × (all ≤ 6400000))) }
-    ensures { rows.new ≡ class_rows side responses.now (dealt k all odd (sizes responses.now)) }
-{
-    for i in 0..responses.len() {
-        let response = responses[i];
-        let extra = odd.min(1);
-        let filled = (whole_part(k, all, response.size) + extra) as u32;
-        rows[i] = row_of(side, &response, filled);
-        odd -= extra;
+impl Deal<'_> {
+    // The whole contracts that fall to a size: its part of the contracts by all sizes, rounded down.
+    fn whole_part(&self, size: u32) -> u64
+        requires some { 1 ≤ size }
+        requires within { size ≤ self.now.asked }
+        ensures value { result ≡ self.now.contracts * size / self.now.asked }
+        ensures most { result ≤ size }
+        ensures below { self.now.contracts < self.now.asked → result < size }
+    {
+        self.contracts * u64::from(size) / self.asked
     }
-}
 
-// Shares `k` contracts among the responses and writes their rows.
-pub(crate) fn share_class(side: Side, k: u64, responses: &[Response], rows: &mut [FillRow])
-    requires { (Sound responses.now) × (length rows.old ≡ length responses.now) }
-    ensures { rows.new ≡ shared_rows side k responses.now }
-{
-    let all = total_size(responses);
-    if all <= k {
-        fill_whole(side, responses, rows);
-    } else {
-        let odd = k - whole_parts(k, all, responses);
-        deal(side, k, all, odd, responses, rows);
+    // These, added up.
+    fn whole_parts(&self) -> u64
+        ensures { result ≡ parts_total self.now.contracts self.now.asked (sizes self.now.among.responses.now) }
+    {
+        self.among
+            .responses
+            .iter()
+            .map(|response| self.whole_part(response.size))
+            .sum()
+    }
+
+    // Deals each response its whole contracts, and one more to each of the first until none is left.
+    fn write_rows(&self, side: Side, rows: &mut [FillRow])
+        requires { length rows.old ≡ length self.now.among.responses.now }
+        ensures { rows.new ≡ shared_rows side self.now.contracts self.now.among.responses.now }
+    {
+        // The rows are written by place: after a loop over `rows.iter_mut().zip(..)` no proof knows what they hold.
+        let mut odd = self.contracts - self.whole_parts();
+        for (i, response) in self.among.responses.iter().enumerate() {
+            let extra = odd.min(1);
+            let filled = (self.whole_part(response.size) + extra) as u32;
+            rows[i] = row_of(side, response, filled);
+            odd -= extra;
+        }
     }
 }

@@ -1,8 +1,25 @@
 // How the contracts that are left are split at one level among customers, contra and others.
-ghost use Rattle.std.specs.Prelude.{◌≡◌, ◌+◌, ◌≤◌};
+ghost use Rattle.std.specs.Prelude.{◌≡◌, ◌+◌, ◌-◌, ◌≤◌};
 ghost use Rattle.allocation.specs.Splits.{guaranteed, others_share, matched, clean_up, nothing_trades, stop_rest, match_between, match_rest, rest_by, split, taken};
 
 use crate::order::{ContraTerms, GuaranteeKind};
+use std::cmp::Ordering;
+
+// The contracts of the order that are left at a level, and the contra's so far.
+#[derive(Clone, Copy)]
+pub struct Progress {
+    pub left: u64,
+    pub so_far: u64,
+}
+
+// The sizes that stand at a level, added up: those of 64 responses at most.
+#[derive(Clone, Copy)]
+pub(crate) struct Asked {
+    pub customers: u64,
+    pub others: u64,
+    ghost few_customers: { customers ≤ 6400000 },
+    ghost few_others: { others ≤ 6400000 },
+}
 
 // What each gets at a level.
 #[derive(Clone, Copy)]
@@ -51,91 +68,87 @@ fn clean(left: u64, part: u64, asked: u64) -> Rest
     }
 }
 
-fn rest_at_stop(terms: &ContraTerms, price: i64, left: u64, asked: u64) -> Rest
-    ensures value { result ≡ stop_rest terms.now price left asked }
-    ensures within { result.contra + result.others ≤ left }
-{
-    let stop = terms.guarantee.price;
-    if price < stop {
-        share_others(left, asked)
-    } else if stop < price {
-        Rest {
-            contra: 0,
-            others: 0,
+impl Progress {
+    // Behind a level that was split so.
+    pub(crate) fn past(self, split: &Split) -> Progress
+        requires within { taken split.now ≤ self.left }
+        requires most { self.left + self.so_far ≤ 100000 }
+        ensures left { result.left ≡ self.left - taken split.now }
+        ensures so_far { result.so_far ≡ self.so_far + split.now.contra }
+    {
+        Progress {
+            left: self.left - (split.customers + (split.contra + split.others)),
+            so_far: self.so_far + split.contra,
         }
-    } else {
-        clean(left, u64::from(terms.guaranteed), asked)
     }
 }
 
-// From the limit price on, before the initiating price.
-fn rest_between(terms: &ContraTerms, left: u64, so_far: u64, customers: u64, asked: u64) -> Rest
-    requires { (customers ≤ 6400000) × (asked ≤ 6400000) }
-    ensures value { result ≡ match_between terms.now left so_far customers asked }
-    ensures within { result.contra + result.others ≤ left }
-{
-    let share = u64::from(terms.guaranteed);
-    if share <= so_far {
-        share_others(left, asked)
-    } else if asked + (customers + asked) <= left {
-        Rest {
-            contra: customers + asked,
-            others: asked,
+impl ContraTerms {
+    fn rest_at_stop(&self, price: i64, left: u64, asked: u64) -> Rest
+        ensures value { result ≡ stop_rest self.now price left asked }
+        ensures within { result.contra + result.others ≤ left }
+    {
+        match price.cmp(&self.guarantee.price) {
+            Ordering::Less => share_others(left, asked),
+            Ordering::Equal => clean(left, u64::from(self.guaranteed), asked),
+            Ordering::Greater => Rest {
+                contra: 0,
+                others: 0,
+            },
         }
-    } else {
-        clean(left, share - so_far, asked)
     }
-}
 
-fn rest_in_match(
-    terms: &ContraTerms,
-    price: i64,
-    left: u64,
-    so_far: u64,
-    customers: u64,
-    asked: u64,
-) -> Rest
-    requires { (customers ≤ 6400000) × (asked ≤ 6400000) }
-    ensures value { result ≡ match_rest terms.now price left so_far customers asked }
-    ensures within { result.contra + result.others ≤ left }
-{
-    if price < terms.guarantee.price {
-        share_others(left, asked)
-    } else if price < terms.initiating {
-        rest_between(terms, left, so_far, customers, asked)
-    } else {
-        clean(
-            left,
-            u64::from(terms.guaranteed).saturating_sub(so_far),
-            asked,
-        )
-    }
-}
-
-// The split of the contracts that are left: `so_far` are the contra's, `customers` and `others` the sizes that stand at
-// this level.
-pub(crate) fn split_level(
-    terms: &ContraTerms,
-    price: i64,
-    left: u64,
-    so_far: u64,
-    customers: u64,
-    others: u64,
-) -> Split
-    requires { (customers ≤ 6400000) × (others ≤ 6400000) }
-    ensures value { result ≡ split terms.now price left so_far customers others }
-    ensures within { taken result ≤ left }
-{
-    let first = left.min(customers);
-    let rest = match terms.guarantee.kind {
-        GuaranteeKind::SingleStop => rest_at_stop(terms, price, left - first, others),
-        GuaranteeKind::AutoMatchLimit => {
-            rest_in_match(terms, price, left - first, so_far, customers, others)
+    // From the limit price on, before the initiating price.
+    fn rest_between(&self, progress: Progress, asked: Asked) -> Rest
+        ensures value { result ≡ match_between self.now progress.left progress.so_far asked.customers asked.others }
+        ensures within { result.contra + result.others ≤ progress.left }
+    {
+        let share = u64::from(self.guaranteed);
+        let both = asked.customers + asked.others;
+        if share <= progress.so_far {
+            share_others(progress.left, asked.others)
+        } else if asked.others + both <= progress.left {
+            Rest {
+                contra: both,
+                others: asked.others,
+            }
+        } else {
+            clean(progress.left, share - progress.so_far, asked.others)
         }
-    };
-    Split {
-        customers: first,
-        contra: rest.contra,
-        others: rest.others,
+    }
+
+    fn rest_in_match(&self, price: i64, progress: Progress, asked: Asked) -> Rest
+        ensures value { result ≡ match_rest self.now price progress.left progress.so_far asked.customers asked.others }
+        ensures within { result.contra + result.others ≤ progress.left }
+    {
+        if price < self.guarantee.price {
+            share_others(progress.left, asked.others)
+        } else if price < self.initiating {
+            self.rest_between(progress, asked)
+        } else {
+            let lacking = u64::from(self.guaranteed).saturating_sub(progress.so_far);
+            clean(progress.left, lacking, asked.others)
+        }
+    }
+
+    // The split at a level of the contracts that are left, by the sizes that stand there.
+    pub(crate) fn split(&self, price: i64, progress: Progress, asked: Asked) -> Split
+        ensures value { result ≡ split self.now price progress.left progress.so_far asked.customers asked.others }
+        ensures within { taken result ≤ progress.left }
+    {
+        let customers = progress.left.min(asked.customers);
+        let behind = Progress {
+            left: progress.left - customers,
+            ..progress
+        };
+        let rest = match self.guarantee.kind {
+            GuaranteeKind::SingleStop => self.rest_at_stop(price, behind.left, asked.others),
+            GuaranteeKind::AutoMatchLimit => self.rest_in_match(price, behind, asked),
+        };
+        Split {
+            customers,
+            contra: rest.contra,
+            others: rest.others,
+        }
     }
 }

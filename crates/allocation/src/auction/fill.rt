@@ -1,10 +1,7 @@
 // The fill list of an auction.
-ghost use Rattle.std.specs.Prelude.{◌≡◌, ◌≤◌, true, ◌++◌, length, drop, Some};
-ghost use Rattle.market.specs.Prices.{showable};
+ghost use Rattle.std.specs.Prelude.{◌≡◌, ◌≤◌, ◌++◌, length, drop};
 ghost use Rattle.allocation.specs.Auction.{auction_values, auction_fills, fill_answer, rows_after, LawfullyFilled, LevelsInRankingOrder};
-ghost use Rattle.allocation.specs.FillList.{contra_terms, fills};
-ghost use Rattle.allocation.specs.LevelSteps.{Sound};
-ghost use Rattle.allocation.specs.Levels.{contra_level, levels};
+ghost use Rattle.allocation.specs.FillList.{contra_terms};
 ghost use Rattle.allocation.specs.Rankings.{by_key};
 ghost use Rattle.allocation.specs.Splits.{guaranteed};
 ghost use Rattle.allocation.specs.Table.{standing};
@@ -15,30 +12,9 @@ use crate::fill::{FillRow, LEAST_ROWS};
 use crate::order::ContraTerms;
 use crate::ranking::Ranking;
 use crate::refusal::FillRefusal;
-use crate::response::Response;
+use crate::share::Standing;
 use crate::split::guaranteed_share;
-use crate::walk::fill_levels;
-use market::side::Side;
-
-// Arranges the responses and writes the rows of all their levels.
-fn share_out<R: Ranking>(
-    ranking: &R,
-    side: Side,
-    terms: &ContraTerms,
-    size: u32,
-    responses: &mut [Response],
-    rows: &mut [FillRow],
-) -> usize
-    requires responses { Sound responses.old }
-    requires own { showable (Some (contra_level terms.now.guarantee.kind terms.now)) ≡ true }
-    requires size { size ≤ 100000 }
-    requires rows { 129 ≤ length rows.old }
-    ensures count { result ≡ length (fills side terms.now (levels (by_key (R.Ranking.ahead ranking.now)) (contra_level terms.now.guarantee.kind terms.now) responses.old) size 0) }
-    ensures rows { rows.new ≡ fills side terms.now (levels (by_key (R.Ranking.ahead ranking.now)) (contra_level terms.now.guarantee.kind terms.now) responses.old) size 0 ++ drop result rows.old }
-{
-    arrange(ranking, responses);
-    fill_levels(side, terms, size, responses, rows)
-}
+use crate::walk::ShareOut;
 
 impl Auction {
     // The contra's guaranteed share, in contracts.
@@ -66,16 +42,16 @@ impl Auction {
         ensures rows { rows.new ≡ auction_fills (by_key (R.Ranking.ahead ranking.now)) (auction_values self.now) ++ drop result rows.old }
     {
         let mut responses = self.table.rows;
-        let n = self.table.len;
-        let terms = self.contra_terms();
-        share_out(
-            ranking,
-            self.order.side,
-            &terms,
-            self.order.size,
-            &mut responses[0..n],
-            rows,
-        )
+        let standing = &mut responses[..self.table.len];
+        arrange(ranking, standing);
+        let share_out = ShareOut {
+            side: self.order.side,
+            terms: self.contra_terms(),
+            arranged: Standing {
+                responses: standing,
+            },
+        };
+        share_out.write_rows(self.order.size, rows)
     }
 
     // Shares out the order's contracts among the responses that stand and the contra firm, and writes who gets how many

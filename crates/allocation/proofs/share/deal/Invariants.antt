@@ -1,9 +1,0 @@
-use Rattle.std.proofs.Common.{◌≡◌, ◌++◌, take, drop}
-use Rattle.allocation.specs.FillList.{class_rows}
-use Rattle.allocation.specs.Shares.{sizes, dealt}
-use Rattle.allocation.proofs.share.deal.Given as goal
-
-abbrev pub invariant-loop-i : goal.invariant-loop-i
-invariant-loop-i l =
-    take l.i l.rows ++ class_rows l.side (drop l.i l.responses) (dealt l.k l.all l.odd (sizes (drop l.i l.responses)))
-    ≡ class_rows l.side l.responses (dealt l.k l.all l.initial.odd (sizes l.responses))
