@@ -53,6 +53,34 @@ pub struct Response {
     pub arrival: u32,
 }
 
+impl Response {
+    // Which response of which member this is.
+    pub(crate) fn id(&self) -> ResponseId
+        ensures member { result.member ≡ self.now.member }
+        ensures own { result.own ≡ self.now.own }
+    {
+        ResponseId {
+            member: self.member,
+            own: self.own,
+        }
+    }
+}
+
+// A response of a member, by its own number.
+#[derive(Clone, Copy, PartialEq, Eq, Debug)]
+pub struct ResponseId {
+    pub member: u8,
+    pub own: u8,
+}
+
+// What a change gives a response: the price is turned, and the arrival number is a new one.
+#[derive(Clone, Copy, PartialEq, Eq, Debug)]
+pub struct NewTerms {
+    pub size: u32,
+    pub price: i64,
+    pub arrival: u32,
+}
+
 // What a ranking may look at.
 #[derive(Clone, Copy)]
 pub struct Key {

@@ -1,22 +1,14 @@
 // Making an auction.
 ghost use Rattle.std.specs.Prelude.{◌≡◌, [], length, Some};
 ghost use Rattle.std.specs.Option.{option_map};
-ghost use Rattle.market.specs.Prices.{showable};
 ghost use Rattle.allocation.specs.Auction.{auction_values, new_auction};
-ghost use Rattle.allocation.specs.AuctionInvariant.{terms_ok, range_ok, guarantee_ok, stop_ok, from_to};
+ghost use Rattle.allocation.specs.AuctionInvariant.{terms_ok, range_ok, guarantee_ok, stop_ok};
 
 use super::Auction;
+use crate::limits::is_size;
 use crate::order::{Guarantee, GuaranteeKind, PairedOrder};
-use crate::response::{Class, Kind, Response};
 use crate::table::ResponseTable;
-
-const MOST_SHOWN: i64 = 50_000_000;
-
-fn is_showable(price: i64) -> bool
-    ensures { result ≡ showable (Some price) }
-{
-    -MOST_SHOWN <= price && price <= MOST_SHOWN
-}
+use market::prices::is_showable;
 
 fn stop_holds(guarantee: &Guarantee, floor: i64) -> bool
     ensures { result ≡ stop_ok guarantee.now.kind floor guarantee.now.price }
@@ -39,17 +31,11 @@ fn guarantee_holds(guarantee: &Guarantee, floor: i64, initiating: i64) -> bool
     guarantee.price <= initiating && stop_holds(guarantee, floor)
 }
 
-fn size_holds(size: u32) -> bool
-    ensures { result ≡ from_to 1 100000 size }
-{
-    1 <= size && size <= 100_000
-}
-
 // An auction can have these terms.
 pub(crate) fn terms_hold(order: &PairedOrder, floor: i64, initiating: i64) -> bool
     ensures { result ≡ terms_ok order.now floor initiating }
 {
-    size_holds(order.size)
+    is_size(order.size)
         && range_holds(floor, initiating)
         && guarantee_holds(&order.guarantee, floor, initiating)
 }

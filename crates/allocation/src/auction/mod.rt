@@ -1,5 +1,5 @@
 // The values of an auction: the order with its guarantee, its range, and the responses that stand. Prices are turned.
-ghost use Rattle.std.specs.Prelude.{◌≡◌, ◌≤◌, true, length, take};
+ghost use Rattle.std.specs.Prelude.{◌≡◌, true, take};
 ghost use Rattle.allocation.specs.AuctionInvariant.{terms_ok, response_ok, each, arrivals_apart, owns_apart};
 
 use crate::order::PairedOrder;
@@ -21,8 +21,6 @@ pub struct Auction {
     pub(crate) initiating: i64,
     pub(crate) table: ResponseTable,
     ghost terms: { terms_ok order floor initiating ≡ true },
-    ghost few: { table.len ≤ 64 },
-    ghost places: { length table.rows ≡ 64 },
     ghost responses: { each (response_ok order.size floor initiating) (take table.len table.rows) ≡ true },
     ghost apart: { arrivals_apart (take table.len table.rows) ≡ true },
     ghost owns: { owns_apart (take table.len table.rows) ≡ true },

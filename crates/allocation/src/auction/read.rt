@@ -5,7 +5,7 @@ ghost use Rattle.allocation.specs.Table.{own_response, any_below};
 
 use super::Auction;
 use crate::order::PairedOrder;
-use crate::response::Response;
+use crate::response::{Response, ResponseId};
 
 // A response at a price below this one.
 fn is_below(response: &Response, price: i64) -> bool
@@ -37,17 +37,18 @@ impl Auction {
     }
 
     // The standing response of this member with this own number, if there is one.
-    pub fn response_of(&self, member: u8, own: u8) -> Option<Response>
-        ensures { result ≡ own_response member own (auction_values self.now).stood }
+    pub fn response_of(&self, of: ResponseId) -> Option<Response>
+        ensures { result ≡ own_response of.member of.own (auction_values self.now).stood }
     {
-        self.table.own_response(member, own)
+        self.table.own_response(of)
     }
 
     // A response stands at a price below this one, both turned.
     pub fn is_any_below(&self, price: i64) -> bool
         ensures { result ≡ any_below price (auction_values self.now).stood }
     {
-        for response in &self.table.rows[0..self.table.len] {
+        // The rule of the project: the response below the floor is found by a `for` over the rows that stand.
+        for response in self.table.standing() {
             if is_below(response, price) {
                 return true;
             }

@@ -13,8 +13,6 @@ invariant_of-self-2 c =
     let z = to_z-of_z w64 a.initiating fits in
     record {
       terms = ap (λ p. terms_ok a.order floor p) (sym z) ∙ sym c.if-not-terms_hold.ensures;
-      few = a.few;
-      places = a.places;
       responses = each_raised a.order.size a.floor floor a.initiating (standing a.table) a.responses (sym c.if-is_any_below.ensures);
       apart = a.apart;
       owns = a.owns;

@@ -20,9 +20,7 @@ invariant_of-self c =
     let p = response_ok a.order.size a.floor a.initiating in
     record {
       terms = a.terms;
-      few = c.push.ensures.tabled.0;
-      places = c.push.ensures.tabled.1;
-      responses = ap (each p) c.push.ensures.standing ∙ each_push p xs x a.responses ok;
-      apart = ap arrivals_apart c.push.ensures.standing ∙ apart_push xs x a.apart free;
-      owns = ap owns_apart c.push.ensures.standing ∙ owns_push xs x a.owns own_is;
+      responses = ap (each p) c.push.ensures ∙ each_push p xs x a.responses ok;
+      apart = ap arrivals_apart c.push.ensures ∙ apart_push xs x a.apart free;
+      owns = ap owns_apart c.push.ensures ∙ owns_push xs x a.owns own_is;
     }

@@ -9,12 +9,10 @@ pub invariant_of-self : goal.invariant_of-self
 invariant_of-self c =
     let a = c.args.self.now in
     let xs = standing a.table in
-    let after = c.remove.ensures.standing in
+    let after = c.remove.ensures in
     let p = response_ok a.order.size a.floor a.initiating in
     record {
       terms = a.terms;
-      few = c.remove.ensures.tabled.0;
-      places = c.remove.ensures.tabled.1;
       responses = ap (each p) after ∙ each_without p c.in-Some.at xs a.responses;
       apart = ap arrivals_apart after ∙ apart_without c.in-Some.at xs a.apart;
       owns = ap owns_apart after ∙ owns_without c.in-Some.at xs a.owns;
