@@ -1,4 +1,4 @@
--- What a change of the table keeps: what holds of each response, and arrival numbers that differ. And what stands at a place that was found.
+-- What a change of the table keeps: what holds of each response, and arrival numbers that differ.
 use Rattle.std.proofs.Common.{◌≡◌, ℕ, zero, suc, ◌+◌, ◌<◌, Bool, true, false, cond, not, ◌&&◌, eqb, List, [], ◌∷◌, ◌++◌, length, get_or, take, drop, ℤ, Some, None, Option, refl, subst, add-one, arith}
 use Rattle.std.proofs.lemmas.Bool.Decides.{nat_tests}
 use Rattle.std.specs.Option.{option_map}
@@ -23,36 +23,23 @@ apart_turned : (m n : ℕ) → not (eqb m n) ≡ true → not (eqb n m) ≡ true
 apart_turned m n h = grind (arith, nat_tests)
 
 pub each_push : {X : Type 0} (p : X → Bool) (xs : List X) (x : X) → each p xs ≡ true → p x ≡ true → each p (xs ++ x ∷ []) ≡ true
-each_push p [] x h k = ok_both (p x) true k refl
-each_push p (y ∷ ys) x h k = ok_both (p y) (each p (ys ++ x ∷ [])) (both_left (p y) (each p ys) h) (each_push p ys x (both_right (p y) (each p ys) h) k)
+each_push p [] x h k = grind arith
+each_push p (y ∷ ys) x h k = grind (arith, each_push p ys x)
 
 pub apart_push : (xs : List Response) (x : Response) → arrivals_apart xs ≡ true → arrival_free x.arrival xs ≡ true → arrivals_apart (xs ++ x ∷ []) ≡ true
-apart_push [] x h k = refl
+apart_push [] x h k = grind arith
 apart_push (y ∷ ys) x h k =
-    let free = both_left (arrival_free y.arrival ys) (arrivals_apart ys) h in
-    let apart = both_right (arrival_free y.arrival ys) (arrivals_apart ys) h in
-    let here = both_left (not (eqb x.arrival y.arrival)) (arrival_free x.arrival ys) k in
-    let rest = both_right (not (eqb x.arrival y.arrival)) (arrival_free x.arrival ys) k in
-    ok_both (arrival_free y.arrival (ys ++ x ∷ [])) (arrivals_apart (ys ++ x ∷ []))
-    (each_push (λ (z : Response). not (eqb y.arrival z.arrival)) ys x free (apart_turned x.arrival y.arrival here))
-    (apart_push ys x apart rest)
+    grind (arith, nat_tests, apart_push ys x, each_push (λ (z : Response). not (eqb y.arrival z.arrival)) ys x)
 
 -- what each keeps when it is changed holds of each when one is changed
 pub each_changed : (p : Response → Bool) (i size : ℕ) (price : ℤ) (arrival : ℕ) (xs : List Response) → each p xs ≡ true → ((x : Response) → p x ≡ true → p (restored size price arrival x) ≡ true) → each p (rewritten i size price arrival xs) ≡ true
-each_changed p i size price arrival [] h k = refl
-each_changed p zero size price arrival (x ∷ xs) h k =
-    ok_both (p (restored size price arrival x)) (each p xs) (k x (both_left (p x) (each p xs) h)) (both_right (p x) (each p xs) h)
-each_changed p (suc i) size price arrival (x ∷ xs) h k =
-    ok_both (p x) (each p (rewritten i size price arrival xs)) (both_left (p x) (each p xs) h) (each_changed p i size price arrival xs (both_right (p x) (each p xs) h) k)
+each_changed p i size price arrival [] h k = grind arith
+each_changed p zero size price arrival (x ∷ xs) h k = grind (arith, k x)
+each_changed p (suc i) size price arrival (x ∷ xs) h k = let more = each_changed p i size price arrival xs in grind (arith, k)
 
 -- a response that stands may stand with another size and price
 changed_ok : (most : ℕ) (floor initiating : ℤ) (size : ℕ) (price : ℤ) (arrival : ℕ) (x : Response) → stored_ok most floor initiating size price ≡ true → response_ok most floor initiating x ≡ true → response_ok most floor initiating (restored size price arrival x) ≡ true
-changed_ok most floor initiating size price arrival x k h =
-    let member : Bool = from_to 1 16 x.member in
-    let own : Bool = from_to 1 4 x.own in
-    let stored : Bool = stored_ok most floor initiating x.size x.price in
-    let new : Bool = stored_ok most floor initiating size price in
-    ok_both member (own && new) (both_left member (own && stored) h) (ok_both own new (both_left own stored (both_right member (own && stored) h)) k)
+changed_ok most floor initiating size price arrival x k h = grind arith
 
 pub each_rewritten : (most : ℕ) (floor initiating : ℤ) (i size : ℕ) (price : ℤ) (arrival : ℕ) (xs : List Response) → each (response_ok most floor initiating) xs ≡ true → stored_ok most floor initiating size price ≡ true → each (response_ok most floor initiating) (rewritten i size price arrival xs) ≡ true
 each_rewritten most floor initiating i size price arrival xs h k =
@@ -93,25 +80,3 @@ apart_less (suc i) (x ∷ xs) h =
 
 pub apart_without : (i : ℕ) (xs : List Response) → arrivals_apart xs ≡ true → arrivals_apart (without_place i xs) ≡ true
 apart_without i xs h = rw (add-one i) (apart_less i xs h)
-
--- at this place stands a response of this member with this own number
-pub record OwnThere (member own i : ℕ) (xs : List Response) : Type 0 where
-  pub within : i < length xs
-  pub theirs : (d : Response) → is_of member own (get_or xs i d) ≡ true
-
-own_next : (member own k : ℕ) (x : Response) (xs : List Response) → OwnThere member own k xs → OwnThere member own (k + 1) (x ∷ xs)
-own_next member own k x xs h = rw (add-one k) (record { within = let w = h.within in omega arith; theirs = h.theirs })
-
-own_split : (member own i : ℕ) (x : Response) (xs : List Response) (b : Bool) (o : Option ℕ) → is_of member own x ≡ b → ((k : ℕ) → o ≡ Some k → OwnThere member own k xs) → cond b (Some 0) (option_map (λ k. k + 1) o) ≡ Some i → OwnThere member own i (x ∷ xs)
-own_split member own i x xs true o e rest h =
-    let at : 0 ≡ i = cc in
-    subst (λ (n : ℕ). OwnThere member own n (x ∷ xs)) at (record { within = omega arith; theirs = λ (d : Response). e })
-own_split member own i x xs false None e rest h = absurd (let z : ◌≡◌ {A = ℕ} 0 1 = cc in omega arith)
-own_split member own i x xs false (Some k) e rest h =
-    let at : k + 1 ≡ i = cc in
-    subst (λ (n : ℕ). OwnThere member own n (x ∷ xs)) at (own_next member own k x xs (rest k refl))
-
-pub own_there : (member own i : ℕ) (xs : List Response) → place_of member own xs ≡ Some i → OwnThere member own i xs
-own_there member own i [] h = absurd (let z : ◌≡◌ {A = ℕ} 0 1 = cc in omega arith)
-own_there member own i (x ∷ xs) h =
-    own_split member own i x xs (is_of member own x) (place_of member own xs) refl (λ (k : ℕ). own_there member own k xs) h

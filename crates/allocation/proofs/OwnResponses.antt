@@ -17,14 +17,6 @@ module _ (member own : ℕ) where
   place_stands [] = refl
   place_stands (x ∷ xs) = same_split (is_of member own x) x (place_of member own xs) (own_response member own xs) (place_stands xs)
 
-  none_is : (r : Option Response) → is_some r ≡ false → r ≡ None
-  none_is None h = refl
-  none_is (Some x) h = absurd (let z : ◌≡◌ {A = ℕ} 0 1 = cc in omega arith)
-
-  -- where there is no place, there is no response
-  pub place_none : (xs : List Response) → place_of member own xs ≡ None → own_response member own xs ≡ None
-  place_none xs h = none_is (own_response member own xs) (sym (place_stands xs) ∙ ap is_some h)
-
   free_split : (b : Bool) (x : Response) (r : Option Response) (rest : Bool) → not (is_some r) ≡ rest → not (is_some (cond b (Some x) r)) ≡ (not b && rest)
   free_split true x r rest h = refl
   free_split false x r rest h = h
@@ -38,13 +30,7 @@ module _ (member own : ℕ) where
   none_split true x hit xs rest r more h = absurd (let z : ◌≡◌ {A = ℕ} 0 1 = cc in omega arith)
   none_split false x hit xs rest r more h = ap (λ ys. x ∷ ys) (more h)
 
-  -- where no response has it, nothing is changed
-  pub none_changed : (size : ℕ) (price : ℤ) (arrival : ℕ) (xs : List Response) → is_some (own_response member own xs) ≡ false → own_changed member own size price arrival xs ≡ xs
-  none_changed size price arrival [] h = refl
-  none_changed size price arrival (x ∷ xs) h =
-      none_split (is_of member own x) x (restored size price arrival x ∷ xs) xs (own_changed member own size price arrival xs) (own_response member own xs) (none_changed size price arrival xs) h
-
-  -- and nothing is removed
+  -- where no response has it, nothing is removed
   pub none_removed : (xs : List Response) → is_some (own_response member own xs) ≡ false → without_own member own xs ≡ xs
   none_removed [] h = refl
   none_removed (x ∷ xs) h = none_split (is_of member own x) x xs xs (without_own member own xs) (own_response member own xs) (none_removed xs) h
@@ -62,13 +48,6 @@ module _ (member own : ℕ) where
     at_found : (xs : List Response) (i : ℕ) → place_of member own xs ≡ Some i → P xs i
     at_found [] i h = absurd (let z : ◌≡◌ {A = ℕ} 0 1 = cc in omega arith)
     at_found (x ∷ xs) i h = found_split x xs i (is_of member own x) (place_of member own xs) refl (at_found xs) h
-
-  -- the response at the place that was found is the one
-  pub found_response : (d : Response) (xs : List Response) (i : ℕ) → place_of member own xs ≡ Some i → own_response member own xs ≡ Some (get_or xs i d)
-  found_response d =
-      at_found (λ xs i. own_response member own xs ≡ Some (get_or xs i d))
-      (λ x xs e. rw e)
-      (λ x xs k e h. rw e h)
 
   -- to change the one is to change the response at the place that was found
   pub found_changed : (size : ℕ) (price : ℤ) (arrival : ℕ) (xs : List Response) (i : ℕ) → place_of member own xs ≡ Some i → own_changed member own size price arrival xs ≡ rewritten i size price arrival xs

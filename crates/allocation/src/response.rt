@@ -2,6 +2,7 @@
 ghost use Rattle.std.specs.Prelude.{◌≡◌, Some};
 ghost use Rattle.std.specs.Fmt.{padded};
 ghost use Rattle.allocation.specs.Classes.{class_number, class_name};
+ghost use Rattle.allocation.specs.Table.{restored};
 
 use std::fmt;
 
@@ -63,6 +64,15 @@ impl Response {
             member: self.member,
             own: self.own,
         }
+    }
+
+    // Changes the size, price and arrival number.
+    pub(crate) fn restore(&mut self, to: NewTerms)
+        ensures { self.new ≡ restored to.size to.price to.arrival self.old }
+    {
+        self.size = to.size;
+        self.price = to.price;
+        self.arrival = to.arrival;
     }
 }
 

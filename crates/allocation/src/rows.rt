@@ -1,18 +1,9 @@
 // Storing, finding, changing and removing the responses of a table.
 ghost use Rattle.std.specs.Prelude.{◌≡◌, ◌<◌, [], ◌∷◌, ◌++◌, length, IfSome};
-ghost use Rattle.allocation.specs.Table.{standing, place_of, own_response, restored, rewritten, without_place};
+ghost use Rattle.allocation.specs.Table.{standing, place_of, own_response, rewritten, without_place};
 
 use crate::response::{Class, Kind, NewTerms, Response, ResponseId};
 use crate::table::ResponseTable;
-
-// Changes the size, price and arrival of one response.
-fn restore(row: &mut Response, to: NewTerms)
-    ensures { row.new ≡ restored to.size to.price to.arrival row.old }
-{
-    row.size = to.size;
-    row.price = to.price;
-    row.arrival = to.arrival;
-}
 
 impl ResponseTable {
     // A table where no response stands.
@@ -65,12 +56,12 @@ impl ResponseTable {
         self.standing().iter().find(|row| row.id() == of).copied()
     }
 
-    // Changes the size, price and arrival of the response at this place, and of no other.
+    // Gives the response at this place other terms, and no other response.
     pub(crate) fn rewrite(&mut self, at: usize, to: NewTerms)
         requires { at < self.old.len }
         ensures { standing self.new ≡ rewritten at to.size to.price to.arrival (standing self.old) }
     {
-        restore(&mut self.rows[at], to);
+        self.rows[at].restore(to);
     }
 
     // Removes the response at this place; each one behind it comes one place forward.

@@ -1,18 +1,11 @@
 // Reading an auction.
-ghost use Rattle.std.specs.Prelude.{◌≡◌, int_lt};
+ghost use Rattle.std.specs.Prelude.{◌≡◌};
 ghost use Rattle.allocation.specs.Auction.{auction_values};
 ghost use Rattle.allocation.specs.Table.{own_response, any_below};
 
 use super::Auction;
 use crate::order::PairedOrder;
 use crate::response::{Response, ResponseId};
-
-// A response at a price below this one.
-fn is_below(response: &Response, price: i64) -> bool
-    ensures { result ≡ int_lt response.now.price price }
-{
-    response.price < price
-}
 
 impl Auction {
     // The order with its guarantee, as stored.
@@ -49,7 +42,7 @@ impl Auction {
     {
         // The rule of the project: the response below the floor is found by a `for` over the rows that stand.
         for response in self.table.standing() {
-            if is_below(response, price) {
+            if response.price < price {
                 return true;
             }
         }

@@ -8,4 +8,4 @@ returns c =
     let t = c.args.self.now in
     let i = c.args.at in
     let within : i < length t.rows = omega arith in
-    rewrite_front i c.args.to.size c.args.to.price c.args.to.arrival t.len t.rows no_response c.restore.new.row c.requires within c.restore.ensures
+    rewrite_front i c.args.to.size c.args.to.price c.args.to.arrival t.len t.rows no_response c.restore.new.self c.requires within c.restore.ensures
