@@ -18,10 +18,6 @@ pub both_right : (a b : Bool) → (a && b) ≡ true → b ≡ true
 both_right true b h = h
 both_right false b h = absurd (let z : ◌≡◌ {A = ℕ} 0 1 = cc in omega arith)
 
--- two numbers differ either way round
-apart_turned : (m n : ℕ) → not (eqb m n) ≡ true → not (eqb n m) ≡ true
-apart_turned m n h = grind (arith, nat_tests)
-
 pub each_push : {X : Type 0} (p : X → Bool) (xs : List X) (x : X) → each p xs ≡ true → p x ≡ true → each p (xs ++ x ∷ []) ≡ true
 each_push p [] x h k = grind arith
 each_push p (y ∷ ys) x h k = grind (arith, each_push p ys x)
@@ -46,37 +42,26 @@ each_rewritten most floor initiating i size price arrival xs h k =
     each_changed (response_ok most floor initiating) i size price arrival xs h (λ (x : Response). changed_ok most floor initiating size price arrival x k)
 
 pub apart_rewritten : (i size : ℕ) (price : ℤ) (arrival : ℕ) (xs : List Response) → arrivals_apart xs ≡ true → arrival_free arrival xs ≡ true → arrivals_apart (rewritten i size price arrival xs) ≡ true
-apart_rewritten i size price arrival [] h k = refl
-apart_rewritten zero size price arrival (x ∷ xs) h k =
-    ok_both (arrival_free arrival xs) (arrivals_apart xs) (both_right (not (eqb arrival x.arrival)) (arrival_free arrival xs) k) (both_right (arrival_free x.arrival xs) (arrivals_apart xs) h)
+apart_rewritten i size price arrival [] h k = grind arith
+apart_rewritten zero size price arrival (x ∷ xs) h k = grind arith
 apart_rewritten (suc i) size price arrival (x ∷ xs) h k =
-    let free = both_left (arrival_free x.arrival xs) (arrivals_apart xs) h in
-    let apart = both_right (arrival_free x.arrival xs) (arrivals_apart xs) h in
-    let here = apart_turned arrival x.arrival (both_left (not (eqb arrival x.arrival)) (arrival_free arrival xs) k) in
-    let rest = both_right (not (eqb arrival x.arrival)) (arrival_free arrival xs) k in
-    ok_both (arrival_free x.arrival (rewritten i size price arrival xs)) (arrivals_apart (rewritten i size price arrival xs))
-    (each_changed (λ (y : Response). not (eqb x.arrival y.arrival)) i size price arrival xs free (λ (y : Response). λ (e : not (eqb x.arrival y.arrival) ≡ true). here))
-    (apart_rewritten i size price arrival xs apart rest)
+    let free = each_changed (λ (y : Response). not (eqb x.arrival y.arrival)) i size price arrival xs in
+    grind (arith, nat_tests, free, apart_rewritten i size price arrival xs)
 
 pub each_less : {X : Type 0} (p : X → Bool) (i : ℕ) (xs : List X) → each p xs ≡ true → each p (take i xs ++ drop (suc i) xs) ≡ true
-each_less p zero [] h = refl
-each_less p (suc i) [] h = refl
-each_less p zero (x ∷ xs) h = both_right (p x) (each p xs) h
-each_less p (suc i) (x ∷ xs) h = ok_both (p x) (each p (take i xs ++ drop (suc i) xs)) (both_left (p x) (each p xs) h) (each_less p i xs (both_right (p x) (each p xs) h))
+each_less p zero [] h = grind arith
+each_less p (suc i) [] h = grind arith
+each_less p zero (x ∷ xs) h = grind arith
+each_less p (suc i) (x ∷ xs) h = grind (arith, each_less p i xs)
 
 pub each_without : {X : Type 0} (p : X → Bool) (i : ℕ) (xs : List X) → each p xs ≡ true → each p (take i xs ++ drop (i + 1) xs) ≡ true
 each_without p i xs h = rw (add-one i) (each_less p i xs h)
 
 apart_less : (i : ℕ) (xs : List Response) → arrivals_apart xs ≡ true → arrivals_apart (take i xs ++ drop (suc i) xs) ≡ true
-apart_less zero [] h = refl
-apart_less (suc i) [] h = refl
-apart_less zero (x ∷ xs) h = both_right (arrival_free x.arrival xs) (arrivals_apart xs) h
-apart_less (suc i) (x ∷ xs) h =
-    let free = both_left (arrival_free x.arrival xs) (arrivals_apart xs) h in
-    let apart = both_right (arrival_free x.arrival xs) (arrivals_apart xs) h in
-    ok_both (arrival_free x.arrival (take i xs ++ drop (suc i) xs)) (arrivals_apart (take i xs ++ drop (suc i) xs))
-    (each_less (λ (y : Response). not (eqb x.arrival y.arrival)) i xs free)
-    (apart_less i xs apart)
+apart_less zero [] h = grind arith
+apart_less (suc i) [] h = grind arith
+apart_less zero (x ∷ xs) h = grind arith
+apart_less (suc i) (x ∷ xs) h = grind (arith, each_less (λ (y : Response). not (eqb x.arrival y.arrival)) i xs, apart_less i xs)
 
 pub apart_without : (i : ℕ) (xs : List Response) → arrivals_apart xs ≡ true → arrivals_apart (without_place i xs) ≡ true
 apart_without i xs h = rw (add-one i) (apart_less i xs h)
