@@ -7,33 +7,24 @@ use Rattle.allocation.specs.Table.{is_of, place_of, restored, rewritten, without
 use Rattle.allocation.specs.declared.response.Response.{Response}
 
 module _ (member own : ℕ) where
-  same_split : (b : Bool) (x : Response) (o : Option ℕ) (r : Option Response) → is_some o ≡ is_some r → is_some (cond b (Some 0) (option_map (λ i. i + 1) o)) ≡ is_some (cond b (Some x) r)
-  same_split true x o r h = refl
-  same_split false x None r h = h
-  same_split false x (Some k) r h = h
-
   -- there is a place exactly if there is a response
   pub place_stands : (xs : List Response) → is_some (place_of member own xs) ≡ is_some (own_response member own xs)
   place_stands [] = refl
-  place_stands (x ∷ xs) = same_split (is_of member own x) x (place_of member own xs) (own_response member own xs) (place_stands xs)
-
-  free_split : (b : Bool) (x : Response) (r : Option Response) (rest : Bool) → not (is_some r) ≡ rest → not (is_some (cond b (Some x) r)) ≡ (not b && rest)
-  free_split true x r rest h = refl
-  free_split false x r rest h = h
+  place_stands (x ∷ xs) = grind (arith, place_stands xs)
 
   -- an own number is free exactly if no response has it
   pub free_stands : (xs : List Response) → not (is_some (own_response member own xs)) ≡ own_free member own xs
   free_stands [] = refl
-  free_stands (x ∷ xs) = free_split (is_of member own x) x (own_response member own xs) (own_free member own xs) (free_stands xs)
+  free_stands (x ∷ xs) = grind (arith, free_stands xs)
 
-  none_split : (b : Bool) (x : Response) (hit xs rest : List Response) (r : Option Response) → (is_some r ≡ false → rest ≡ xs) → is_some (cond b (Some x) r) ≡ false → cond b hit (x ∷ rest) ≡ x ∷ xs
-  none_split true x hit xs rest r more h = absurd (let z : ◌≡◌ {A = ℕ} 0 1 = cc in omega arith)
-  none_split false x hit xs rest r more h = ap (λ ys. x ∷ ys) (more h)
+  -- and so if there is no place
+  pub place_free : (xs : List Response) → not (is_some (place_of member own xs)) ≡ own_free member own xs
+  place_free xs = ap not (place_stands xs) ∙ free_stands xs
 
   -- where no response has it, nothing is removed
   pub none_removed : (xs : List Response) → is_some (own_response member own xs) ≡ false → without_own member own xs ≡ xs
   none_removed [] h = refl
-  none_removed (x ∷ xs) h = none_split (is_of member own x) x xs xs (without_own member own xs) (own_response member own xs) (none_removed xs) h
+  none_removed (x ∷ xs) h = grind (arith, none_removed xs)
 
   -- what holds of the first row if it is the one, and of a place behind another row if it holds of that place, holds of
   -- the place that was found

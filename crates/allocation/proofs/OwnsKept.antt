@@ -1,13 +1,29 @@
 -- What a change of the table or of the floor keeps besides: members with own numbers that differ, and what holds of each
 -- response when the floor moves.
-use Rattle.std.proofs.Common.{◌≡◌, ℕ, zero, suc, ◌+◌, Bool, true, false, not, ◌&&◌, ◌||◌, List, [], ◌∷◌, ◌++◌, take, drop, ℤ, refl, add-one, arith}
+use Rattle.std.proofs.Common.{is_some, sym, ◌∙◌, ◌≡◌, ℕ, zero, suc, ◌+◌, Bool, true, false, not, ◌&&◌, ◌||◌, List, [], ◌∷◌, ◌++◌, take, drop, ℤ, refl, add-one, arith}
 use lib.Signed.{le_z, lt_z}
 use Rattle.std.proofs.lemmas.Int.{ints}
 use Rattle.std.proofs.lemmas.Bool.Decides.{nat_tests}
-use Rattle.allocation.specs.AuctionInvariant.{from_to, response_ok, each, own_free, owns_apart}
-use Rattle.allocation.specs.Table.{is_of, rewritten, any_below}
+use Rattle.allocation.specs.Auction.{AuctionValues, may_store}
+use Rattle.allocation.proofs.OwnResponses.{place_free}
+use Rattle.std.proofs.lemmas.Bool.{and_parts}
+use Rattle.allocation.specs.AuctionInvariant.{arrival_free, from_to, response_ok, each, own_free, owns_apart}
+use Rattle.allocation.specs.Table.{is_of, place_of, rewritten, any_below}
 use Rattle.allocation.specs.declared.response.Response.{Response}
 use Rattle.allocation.proofs.AuctionKept.{ok_both, both_left, both_right, each_push, each_changed, each_less}
+
+-- what is known of a response that may be stored behind those that stand
+pub record NewStands (a : AuctionValues) (x : Response) : Type 0 where
+  pub stands : response_ok a.order.size a.floor a.initiating x ≡ true
+  pub arrival : arrival_free x.arrival a.stood ≡ true
+  pub own : own_free x.member x.own a.stood ≡ true
+
+pub new_stands : (a : AuctionValues) (x : Response) → may_store a x ≡ true → NewStands a x
+new_stands a x h =
+    let stands = and_parts (response_ok a.order.size a.floor a.initiating x) _ h in
+    let arrival = and_parts (arrival_free x.arrival a.stood) _ stands.1 in
+    let own = and_parts (not (is_some (place_of x.member x.own a.stood))) _ arrival.1 in
+    record { stands = stands.0; arrival = arrival.0; own = sym (place_free x.member x.own a.stood) ∙ own.0 }
 
 pub owns_push : (xs : List Response) (x : Response) → owns_apart xs ≡ true → own_free x.member x.own xs ≡ true → owns_apart (xs ++ x ∷ []) ≡ true
 owns_push [] x h k = grind arith
