@@ -1,22 +1,16 @@
 -- What a change of the table keeps: what holds of each response, and arrival numbers that differ.
-use Rattle.std.proofs.Common.{◌≡◌, ℕ, zero, suc, ◌+◌, ◌<◌, Bool, true, false, cond, not, ◌&&◌, eqb, List, [], ◌∷◌, ◌++◌, length, get_or, take, drop, ℤ, Some, None, Option, refl, subst, add-one, arith}
+use Rattle.std.proofs.Common.{◌≡◌, ℕ, zero, suc, ◌+◌, Bool, true, not, ◌&&◌, eqb, List, [], ◌∷◌, ◌++◌, take, drop, ℤ, add-one, arith}
+use Rattle.std.proofs.lemmas.Bool.{and_parts}
 use Rattle.std.proofs.lemmas.Bool.Decides.{nat_tests}
-use Rattle.std.specs.Option.{option_map}
-use Rattle.allocation.specs.AuctionInvariant.{from_to, stored_ok, response_ok, each, arrival_free, arrivals_apart}
-use Rattle.allocation.specs.Table.{is_of, place_of, restored, rewritten, without_place}
+use Rattle.allocation.specs.AuctionInvariant.{stored_ok, response_ok, each, arrival_free, arrivals_apart}
+use Rattle.allocation.specs.Table.{restored, rewritten, without_place}
 use Rattle.allocation.specs.declared.response.Response.{Response}
 
-pub ok_both : (a b : Bool) → a ≡ true → b ≡ true → (a && b) ≡ true
-ok_both true b h k = k
-ok_both false b h k = h
-
 pub both_left : (a b : Bool) → (a && b) ≡ true → a ≡ true
-both_left true b h = refl
-both_left false b h = h
+both_left a b h = (and_parts a b h).0
 
 pub both_right : (a b : Bool) → (a && b) ≡ true → b ≡ true
-both_right true b h = h
-both_right false b h = absurd (let z : ◌≡◌ {A = ℕ} 0 1 = cc in omega arith)
+both_right a b h = (and_parts a b h).1
 
 pub each_push : {X : Type 0} (p : X → Bool) (xs : List X) (x : X) → each p xs ≡ true → p x ≡ true → each p (xs ++ x ∷ []) ≡ true
 each_push p [] x h k = grind arith
