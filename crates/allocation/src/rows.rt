@@ -1,5 +1,5 @@
 // Storing, finding, changing and removing the responses of a table.
-ghost use Rattle.std.specs.Prelude.{◌≡◌, ◌<◌, [], ◌∷◌, ◌++◌, length, IfSome};
+ghost use Rattle.std.specs.Prelude.{◌≡◌, ◌<◌, [], ◌∷◌, ◌++◌, length, IfSome, nat_lt};
 ghost use Rattle.allocation.specs.Table.{standing, place_of, own_response, rewritten, without_place};
 
 use crate::response::{Class, Kind, NewTerms, Response, ResponseId};
@@ -32,6 +32,13 @@ impl ResponseTable {
         &self.rows[..self.len]
     }
 
+    // Fewer responses stand than there are places.
+    pub(crate) fn has_place(&self) -> bool
+        ensures { result ≡ nat_lt (length (standing self.now)) 64 }
+    {
+        self.len < self.rows.len()
+    }
+
     // Stores one more response behind those that stand.
     pub(crate) fn push(&mut self, response: Response)
         requires { self.old.len < 64 }
@@ -57,6 +64,7 @@ impl ResponseTable {
     }
 
     // Gives the response at this place other terms, and no other response.
+    #[tactic(auto, using(crate::proofs::Places::rewrite_front))]
     pub(crate) fn rewrite(&mut self, at: usize, to: NewTerms)
         requires { at < self.old.len }
         ensures { standing self.new ≡ rewritten at to.size to.price to.arrival (standing self.old) }
@@ -65,6 +73,7 @@ impl ResponseTable {
     }
 
     // Removes the response at this place; each one behind it comes one place forward.
+    #[tactic(auto, using(crate::proofs::Places::closed_up))]
     pub(crate) fn remove(&mut self, at: usize)
         requires { at < self.old.len }
         ensures { standing self.new ≡ without_place at (standing self.old) }

@@ -32,16 +32,14 @@ impl Auction {
             .iter()
             .all(|response| response.arrival != arrival)
     }
-}
 
-impl Auction {
     pub(crate) fn may_store(&self, response: &Response) -> bool
         ensures { result ≡ may_store (auction_values self.now) response.now }
     {
         self.may_stand(response)
             && self.is_arrival_free(response.arrival)
             && self.table.find(response.id()).is_none()
-            && self.table.len < 64
+            && self.table.has_place()
     }
 
     // New values that a standing response may have.
