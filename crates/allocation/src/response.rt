@@ -55,6 +55,17 @@ pub struct Response {
 }
 
 impl Response {
+    // A row of a table where no response stands.
+    pub(crate) const BLANK: Response = Response {
+        member: 0,
+        own: 0,
+        kind: Kind::Plain,
+        class: Class::Other,
+        size: 0,
+        price: 0,
+        arrival: 0,
+    };
+
     // Which response of which member this is.
     pub(crate) fn id(&self) -> ResponseId
         ensures member { result.member ≡ self.now.member }

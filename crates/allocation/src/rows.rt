@@ -2,7 +2,7 @@
 ghost use Rattle.std.specs.Prelude.{◌≡◌, ◌<◌, [], ◌∷◌, ◌++◌, length, IfSome, nat_lt};
 ghost use Rattle.allocation.specs.Table.{standing, place_of, own_response, rewritten, without_place};
 
-use crate::response::{Class, Kind, NewTerms, Response, ResponseId};
+use crate::response::{NewTerms, Response, ResponseId};
 use crate::table::ResponseTable;
 
 impl ResponseTable {
@@ -10,17 +10,8 @@ impl ResponseTable {
     pub(crate) fn empty() -> ResponseTable
         ensures { standing result ≡ [] }
     {
-        let none = Response {
-            member: 0,
-            own: 0,
-            kind: Kind::Plain,
-            class: Class::Other,
-            size: 0,
-            price: 0,
-            arrival: 0,
-        };
         ResponseTable {
-            rows: [none; 64],
+            rows: [Response::BLANK; 64],
             len: 0,
         }
     }

@@ -3,6 +3,7 @@ ghost use Rattle.std.specs.Prelude.{◌≡◌, ◌≤◌, length};
 
 use crate::response::Response;
 
+// The rule of the project is fixed memory: 64 rows and how many of them stand, and no heap.
 #[derive(Clone, Copy)]
 pub struct ResponseTable {
     pub(crate) rows: [Response; 64],
