@@ -5,8 +5,13 @@ use Rattle.std.proofs.lemmas.List.{drop-take, take-take}
 use Rattle.std.proofs.lemmas.List.Edits.{take-paste}
 use Rattle.std.specs.List.{position, find, list_all, copy_within}
 use Rattle.allocation.specs.AuctionInvariant.{each}
-use Rattle.allocation.specs.Table.{is_of, place_of, own_response, restored, rewritten, without_place}
+use Rattle.allocation.specs.declared.table.ResponseTable.{ResponseTable}
+use Rattle.allocation.specs.Table.{Tabled, is_of, place_of, own_response, restored, rewritten, without_place}
 use Rattle.allocation.specs.declared.response.Response.{Response}
+
+-- every table is one
+pub tabled : (t : ResponseTable) → Tabled t
+tabled t = (t.few, t.places)
 
 -- the place of a response is the first position of a row of this member with this own number
 pub position_is : (member own : ℕ) (xs : List Response) → position (is_of member own) xs ≡ place_of member own xs
