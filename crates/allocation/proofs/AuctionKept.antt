@@ -1,117 +1,61 @@
--- What a change of the table keeps: what holds of each response, and arrival numbers that differ. And what stands at a place that was found.
-use Rattle.std.proofs.Common.{◌≡◌, ℕ, zero, suc, ◌+◌, ◌<◌, Bool, true, false, cond, not, ◌&&◌, eqb, List, [], ◌∷◌, ◌++◌, length, get_or, take, drop, ℤ, Some, None, Option, refl, subst, add-one, arith}
+-- What a change of the table keeps: what holds of each response, and arrival numbers that differ.
+use Rattle.std.proofs.Common.{◌≡◌, ℕ, zero, suc, ◌+◌, Bool, true, not, ◌&&◌, eqb, List, [], ◌∷◌, ◌++◌, take, drop, ℤ, add-one, arith}
+use Rattle.std.proofs.lemmas.Bool.{and_parts}
 use Rattle.std.proofs.lemmas.Bool.Decides.{nat_tests}
-use Rattle.std.specs.Option.{option_map}
-use Rattle.allocation.specs.AuctionInvariant.{from_to, stored_ok, response_ok, each, arrival_free, arrivals_apart}
-use Rattle.allocation.specs.Table.{is_of, place_of, restored, rewritten, without_place}
+use Rattle.allocation.specs.AuctionInvariant.{stored_ok, response_ok, each, arrival_free, arrivals_apart}
+use Rattle.allocation.specs.Table.{restored, rewritten, without_place}
 use Rattle.allocation.specs.declared.response.Response.{Response}
 
-pub ok_both : (a b : Bool) → a ≡ true → b ≡ true → (a && b) ≡ true
-ok_both true b h k = k
-ok_both false b h k = h
-
 pub both_left : (a b : Bool) → (a && b) ≡ true → a ≡ true
-both_left true b h = refl
-both_left false b h = h
+both_left a b h = (and_parts a b h).0
 
 pub both_right : (a b : Bool) → (a && b) ≡ true → b ≡ true
-both_right true b h = h
-both_right false b h = absurd (let z : ◌≡◌ {A = ℕ} 0 1 = cc in omega arith)
-
--- two numbers differ either way round
-apart_turned : (m n : ℕ) → not (eqb m n) ≡ true → not (eqb n m) ≡ true
-apart_turned m n h = grind (arith, nat_tests)
+both_right a b h = (and_parts a b h).1
 
 pub each_push : {X : Type 0} (p : X → Bool) (xs : List X) (x : X) → each p xs ≡ true → p x ≡ true → each p (xs ++ x ∷ []) ≡ true
-each_push p [] x h k = ok_both (p x) true k refl
-each_push p (y ∷ ys) x h k = ok_both (p y) (each p (ys ++ x ∷ [])) (both_left (p y) (each p ys) h) (each_push p ys x (both_right (p y) (each p ys) h) k)
+each_push p [] x h k = grind arith
+each_push p (y ∷ ys) x h k = grind (arith, each_push p ys x)
 
 pub apart_push : (xs : List Response) (x : Response) → arrivals_apart xs ≡ true → arrival_free x.arrival xs ≡ true → arrivals_apart (xs ++ x ∷ []) ≡ true
-apart_push [] x h k = refl
+apart_push [] x h k = grind arith
 apart_push (y ∷ ys) x h k =
-    let free = both_left (arrival_free y.arrival ys) (arrivals_apart ys) h in
-    let apart = both_right (arrival_free y.arrival ys) (arrivals_apart ys) h in
-    let here = both_left (not (eqb x.arrival y.arrival)) (arrival_free x.arrival ys) k in
-    let rest = both_right (not (eqb x.arrival y.arrival)) (arrival_free x.arrival ys) k in
-    ok_both (arrival_free y.arrival (ys ++ x ∷ [])) (arrivals_apart (ys ++ x ∷ []))
-    (each_push (λ (z : Response). not (eqb y.arrival z.arrival)) ys x free (apart_turned x.arrival y.arrival here))
-    (apart_push ys x apart rest)
+    grind (arith, nat_tests, apart_push ys x, each_push (λ (z : Response). not (eqb y.arrival z.arrival)) ys x)
 
 -- what each keeps when it is changed holds of each when one is changed
 pub each_changed : (p : Response → Bool) (i size : ℕ) (price : ℤ) (arrival : ℕ) (xs : List Response) → each p xs ≡ true → ((x : Response) → p x ≡ true → p (restored size price arrival x) ≡ true) → each p (rewritten i size price arrival xs) ≡ true
-each_changed p i size price arrival [] h k = refl
-each_changed p zero size price arrival (x ∷ xs) h k =
-    ok_both (p (restored size price arrival x)) (each p xs) (k x (both_left (p x) (each p xs) h)) (both_right (p x) (each p xs) h)
-each_changed p (suc i) size price arrival (x ∷ xs) h k =
-    ok_both (p x) (each p (rewritten i size price arrival xs)) (both_left (p x) (each p xs) h) (each_changed p i size price arrival xs (both_right (p x) (each p xs) h) k)
+each_changed p i size price arrival [] h k = grind arith
+each_changed p zero size price arrival (x ∷ xs) h k = grind (arith, k x)
+each_changed p (suc i) size price arrival (x ∷ xs) h k = let more = each_changed p i size price arrival xs in grind (arith, k)
 
 -- a response that stands may stand with another size and price
 changed_ok : (most : ℕ) (floor initiating : ℤ) (size : ℕ) (price : ℤ) (arrival : ℕ) (x : Response) → stored_ok most floor initiating size price ≡ true → response_ok most floor initiating x ≡ true → response_ok most floor initiating (restored size price arrival x) ≡ true
-changed_ok most floor initiating size price arrival x k h =
-    let member : Bool = from_to 1 16 x.member in
-    let own : Bool = from_to 1 4 x.own in
-    let stored : Bool = stored_ok most floor initiating x.size x.price in
-    let new : Bool = stored_ok most floor initiating size price in
-    ok_both member (own && new) (both_left member (own && stored) h) (ok_both own new (both_left own stored (both_right member (own && stored) h)) k)
+changed_ok most floor initiating size price arrival x k h = grind arith
 
 pub each_rewritten : (most : ℕ) (floor initiating : ℤ) (i size : ℕ) (price : ℤ) (arrival : ℕ) (xs : List Response) → each (response_ok most floor initiating) xs ≡ true → stored_ok most floor initiating size price ≡ true → each (response_ok most floor initiating) (rewritten i size price arrival xs) ≡ true
 each_rewritten most floor initiating i size price arrival xs h k =
     each_changed (response_ok most floor initiating) i size price arrival xs h (λ (x : Response). changed_ok most floor initiating size price arrival x k)
 
 pub apart_rewritten : (i size : ℕ) (price : ℤ) (arrival : ℕ) (xs : List Response) → arrivals_apart xs ≡ true → arrival_free arrival xs ≡ true → arrivals_apart (rewritten i size price arrival xs) ≡ true
-apart_rewritten i size price arrival [] h k = refl
-apart_rewritten zero size price arrival (x ∷ xs) h k =
-    ok_both (arrival_free arrival xs) (arrivals_apart xs) (both_right (not (eqb arrival x.arrival)) (arrival_free arrival xs) k) (both_right (arrival_free x.arrival xs) (arrivals_apart xs) h)
+apart_rewritten i size price arrival [] h k = grind arith
+apart_rewritten zero size price arrival (x ∷ xs) h k = grind arith
 apart_rewritten (suc i) size price arrival (x ∷ xs) h k =
-    let free = both_left (arrival_free x.arrival xs) (arrivals_apart xs) h in
-    let apart = both_right (arrival_free x.arrival xs) (arrivals_apart xs) h in
-    let here = apart_turned arrival x.arrival (both_left (not (eqb arrival x.arrival)) (arrival_free arrival xs) k) in
-    let rest = both_right (not (eqb arrival x.arrival)) (arrival_free arrival xs) k in
-    ok_both (arrival_free x.arrival (rewritten i size price arrival xs)) (arrivals_apart (rewritten i size price arrival xs))
-    (each_changed (λ (y : Response). not (eqb x.arrival y.arrival)) i size price arrival xs free (λ (y : Response). λ (e : not (eqb x.arrival y.arrival) ≡ true). here))
-    (apart_rewritten i size price arrival xs apart rest)
+    let free = each_changed (λ (y : Response). not (eqb x.arrival y.arrival)) i size price arrival xs in
+    grind (arith, nat_tests, free, apart_rewritten i size price arrival xs)
 
 pub each_less : {X : Type 0} (p : X → Bool) (i : ℕ) (xs : List X) → each p xs ≡ true → each p (take i xs ++ drop (suc i) xs) ≡ true
-each_less p zero [] h = refl
-each_less p (suc i) [] h = refl
-each_less p zero (x ∷ xs) h = both_right (p x) (each p xs) h
-each_less p (suc i) (x ∷ xs) h = ok_both (p x) (each p (take i xs ++ drop (suc i) xs)) (both_left (p x) (each p xs) h) (each_less p i xs (both_right (p x) (each p xs) h))
+each_less p zero [] h = grind arith
+each_less p (suc i) [] h = grind arith
+each_less p zero (x ∷ xs) h = grind arith
+each_less p (suc i) (x ∷ xs) h = grind (arith, each_less p i xs)
 
 pub each_without : {X : Type 0} (p : X → Bool) (i : ℕ) (xs : List X) → each p xs ≡ true → each p (take i xs ++ drop (i + 1) xs) ≡ true
 each_without p i xs h = rw (add-one i) (each_less p i xs h)
 
 apart_less : (i : ℕ) (xs : List Response) → arrivals_apart xs ≡ true → arrivals_apart (take i xs ++ drop (suc i) xs) ≡ true
-apart_less zero [] h = refl
-apart_less (suc i) [] h = refl
-apart_less zero (x ∷ xs) h = both_right (arrival_free x.arrival xs) (arrivals_apart xs) h
-apart_less (suc i) (x ∷ xs) h =
-    let free = both_left (arrival_free x.arrival xs) (arrivals_apart xs) h in
-    let apart = both_right (arrival_free x.arrival xs) (arrivals_apart xs) h in
-    ok_both (arrival_free x.arrival (take i xs ++ drop (suc i) xs)) (arrivals_apart (take i xs ++ drop (suc i) xs))
-    (each_less (λ (y : Response). not (eqb x.arrival y.arrival)) i xs free)
-    (apart_less i xs apart)
+apart_less zero [] h = grind arith
+apart_less (suc i) [] h = grind arith
+apart_less zero (x ∷ xs) h = grind arith
+apart_less (suc i) (x ∷ xs) h = grind (arith, each_less (λ (y : Response). not (eqb x.arrival y.arrival)) i xs, apart_less i xs)
 
 pub apart_without : (i : ℕ) (xs : List Response) → arrivals_apart xs ≡ true → arrivals_apart (without_place i xs) ≡ true
 apart_without i xs h = rw (add-one i) (apart_less i xs h)
-
--- at this place stands a response of this member with this own number
-pub record OwnThere (member own i : ℕ) (xs : List Response) : Type 0 where
-  pub within : i < length xs
-  pub theirs : (d : Response) → is_of member own (get_or xs i d) ≡ true
-
-own_next : (member own k : ℕ) (x : Response) (xs : List Response) → OwnThere member own k xs → OwnThere member own (k + 1) (x ∷ xs)
-own_next member own k x xs h = rw (add-one k) (record { within = let w = h.within in omega arith; theirs = h.theirs })
-
-own_split : (member own i : ℕ) (x : Response) (xs : List Response) (b : Bool) (o : Option ℕ) → is_of member own x ≡ b → ((k : ℕ) → o ≡ Some k → OwnThere member own k xs) → cond b (Some 0) (option_map (λ k. k + 1) o) ≡ Some i → OwnThere member own i (x ∷ xs)
-own_split member own i x xs true o e rest h =
-    let at : 0 ≡ i = cc in
-    subst (λ (n : ℕ). OwnThere member own n (x ∷ xs)) at (record { within = omega arith; theirs = λ (d : Response). e })
-own_split member own i x xs false None e rest h = absurd (let z : ◌≡◌ {A = ℕ} 0 1 = cc in omega arith)
-own_split member own i x xs false (Some k) e rest h =
-    let at : k + 1 ≡ i = cc in
-    subst (λ (n : ℕ). OwnThere member own n (x ∷ xs)) at (own_next member own k x xs (rest k refl))
-
-pub own_there : (member own i : ℕ) (xs : List Response) → place_of member own xs ≡ Some i → OwnThere member own i xs
-own_there member own i [] h = absurd (let z : ◌≡◌ {A = ℕ} 0 1 = cc in omega arith)
-own_there member own i (x ∷ xs) h =
-    own_split member own i x xs (is_of member own x) (place_of member own xs) refl (λ (k : ℕ). own_there member own k xs) h

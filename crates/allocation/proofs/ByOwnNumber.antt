@@ -8,7 +8,7 @@ use Rattle.allocation.specs.declared.response.Response.{Response}
 use Rattle.allocation.specs.Auction.{AuctionValues, auction_values, with_stood, may_store, changed, changed_at, withdrawn, withdrawn_at}
 use Rattle.allocation.specs.AuctionInvariant.{response_ok, stored_ok, arrival_free, own_free}
 use Rattle.allocation.specs.Table.{standing, place_of, rewritten, own_response, own_changed, without_own}
-use Rattle.allocation.proofs.AuctionKept.{ok_both}
+use Rattle.std.proofs.lemmas.Bool.{and_from}
 use Rattle.allocation.proofs.FewResponses.{place_left}
 use Rattle.allocation.proofs.OwnResponses.{place_stands, free_stands, none_removed, found_changed, found_without}
 
@@ -21,12 +21,12 @@ own_stored a x ok arrival none =
     let few : length xs < 64 = place_left a.order.size a.floor a.initiating xs x a.responses a.owns ok own in
     let left : ltb (length xs) 64 ≡ true = grind (arith, nat_tests) in
     let no_place : not (is_some (place_of x.member x.own xs)) ≡ true = ap not (place_stands x.member x.own xs ∙ none) in
-    ok_both (response_ok a.order.size a.floor a.initiating x) _ ok (ok_both (arrival_free x.arrival xs) _ arrival (ok_both (not (is_some (place_of x.member x.own xs))) _ no_place left))
+    and_from (response_ok a.order.size a.floor a.initiating x) _ ok (and_from (arrival_free x.arrival xs) _ arrival (and_from (not (is_some (place_of x.member x.own xs))) _ no_place left))
 
 changed_found : (o : Option ℕ) (v : AuctionValues) (member own size : ℕ) (price : ℤ) (arrival : ℕ) → place_of member own v.stood ≡ o → is_some o ≡ true
     → (stored_ok v.order.size v.floor v.initiating size price && arrival_free arrival v.stood) ≡ true
     → changed_at o v size price arrival ≡ with_stood v (own_changed member own size price arrival v.stood)
-changed_found None v member own size price arrival at is may = absurd (let z : ◌≡◌ {A = ℕ} 0 1 = cc in omega arith)
+changed_found None v member own size price arrival at is may = grind arith
 changed_found (Some i) v member own size price arrival at is may =
     ap (λ (b : Bool). cond b (with_stood v (rewritten i size price arrival v.stood)) v) may
     ∙ ap (with_stood v) (sym (found_changed member own size price arrival v.stood i at))
@@ -36,7 +36,7 @@ pub own_rewritten : (v : AuctionValues) (member own size : ℕ) (price : ℤ) (a
     → stored_ok v.order.size v.floor v.initiating size price ≡ true → arrival_free arrival v.stood ≡ true
     → changed v member own size price arrival ≡ with_stood v (own_changed member own size price arrival v.stood)
 own_rewritten v member own size price arrival stands ok free =
-    changed_found (place_of member own v.stood) v member own size price arrival refl (place_stands member own v.stood ∙ stands) (ok_both (stored_ok v.order.size v.floor v.initiating size price) _ ok free)
+    changed_found (place_of member own v.stood) v member own size price arrival refl (place_stands member own v.stood ∙ stands) (and_from (stored_ok v.order.size v.floor v.initiating size price) _ ok free)
 
 withdrawn_found : (o : Option ℕ) (v : AuctionValues) (member own : ℕ) → place_of member own v.stood ≡ o → withdrawn_at o v ≡ with_stood v (without_own member own v.stood)
 withdrawn_found None v member own at =

@@ -1,85 +1,41 @@
 -- A response by its member and own number, and by its place: what stands at the place that was found is the one that is
 -- read, changed and removed.
-use Rattle.std.proofs.Common.{◌≡◌, ℕ, suc, ◌+◌, Bool, true, false, cond, not, ◌&&◌, List, [], ◌∷◌, get_or, ℤ, is_some, Some, None, Option, sym, refl, ap, ◌∙◌, subst, add-one, arith}
-use Rattle.std.specs.Option.{option_map}
+use Rattle.std.proofs.Common.{zero, ◌++◌, take, drop, ◌≡◌, ℕ, suc, false, not, List, [], ◌∷◌, ℤ, is_some, Some, refl, ap, ◌∙◌, add-one, arith}
 use Rattle.allocation.specs.AuctionInvariant.{own_free}
-use Rattle.allocation.specs.Table.{is_of, place_of, restored, rewritten, without_place, own_response, own_changed, without_own}
+use Rattle.allocation.specs.Table.{place_of, rewritten, without_place, own_response, own_changed, without_own}
 use Rattle.allocation.specs.declared.response.Response.{Response}
 
 module _ (member own : ℕ) where
-  same_split : (b : Bool) (x : Response) (o : Option ℕ) (r : Option Response) → is_some o ≡ is_some r → is_some (cond b (Some 0) (option_map (λ i. i + 1) o)) ≡ is_some (cond b (Some x) r)
-  same_split true x o r h = refl
-  same_split false x None r h = h
-  same_split false x (Some k) r h = h
-
   -- there is a place exactly if there is a response
   pub place_stands : (xs : List Response) → is_some (place_of member own xs) ≡ is_some (own_response member own xs)
   place_stands [] = refl
-  place_stands (x ∷ xs) = same_split (is_of member own x) x (place_of member own xs) (own_response member own xs) (place_stands xs)
-
-  none_is : (r : Option Response) → is_some r ≡ false → r ≡ None
-  none_is None h = refl
-  none_is (Some x) h = absurd (let z : ◌≡◌ {A = ℕ} 0 1 = cc in omega arith)
-
-  -- where there is no place, there is no response
-  pub place_none : (xs : List Response) → place_of member own xs ≡ None → own_response member own xs ≡ None
-  place_none xs h = none_is (own_response member own xs) (sym (place_stands xs) ∙ ap is_some h)
-
-  free_split : (b : Bool) (x : Response) (r : Option Response) (rest : Bool) → not (is_some r) ≡ rest → not (is_some (cond b (Some x) r)) ≡ (not b && rest)
-  free_split true x r rest h = refl
-  free_split false x r rest h = h
+  place_stands (x ∷ xs) = grind (arith, place_stands xs)
 
   -- an own number is free exactly if no response has it
   pub free_stands : (xs : List Response) → not (is_some (own_response member own xs)) ≡ own_free member own xs
   free_stands [] = refl
-  free_stands (x ∷ xs) = free_split (is_of member own x) x (own_response member own xs) (own_free member own xs) (free_stands xs)
+  free_stands (x ∷ xs) = grind (arith, free_stands xs)
 
-  none_split : (b : Bool) (x : Response) (hit xs rest : List Response) (r : Option Response) → (is_some r ≡ false → rest ≡ xs) → is_some (cond b (Some x) r) ≡ false → cond b hit (x ∷ rest) ≡ x ∷ xs
-  none_split true x hit xs rest r more h = absurd (let z : ◌≡◌ {A = ℕ} 0 1 = cc in omega arith)
-  none_split false x hit xs rest r more h = ap (λ ys. x ∷ ys) (more h)
+  -- and so if there is no place
+  pub place_free : (xs : List Response) → not (is_some (place_of member own xs)) ≡ own_free member own xs
+  place_free xs = ap not (place_stands xs) ∙ free_stands xs
 
-  -- where no response has it, nothing is changed
-  pub none_changed : (size : ℕ) (price : ℤ) (arrival : ℕ) (xs : List Response) → is_some (own_response member own xs) ≡ false → own_changed member own size price arrival xs ≡ xs
-  none_changed size price arrival [] h = refl
-  none_changed size price arrival (x ∷ xs) h =
-      none_split (is_of member own x) x (restored size price arrival x ∷ xs) xs (own_changed member own size price arrival xs) (own_response member own xs) (none_changed size price arrival xs) h
-
-  -- and nothing is removed
+  -- where no response has it, nothing is removed
   pub none_removed : (xs : List Response) → is_some (own_response member own xs) ≡ false → without_own member own xs ≡ xs
   none_removed [] h = refl
-  none_removed (x ∷ xs) h = none_split (is_of member own x) x xs xs (without_own member own xs) (own_response member own xs) (none_removed xs) h
-
-  -- what holds of the first row if it is the one, and of a place behind another row if it holds of that place, holds of
-  -- the place that was found
-  module _ (P : List Response → ℕ → Type 0) (here : (x : Response) (xs : List Response) → is_of member own x ≡ true → P (x ∷ xs) 0) (behind : (x : Response) (xs : List Response) (k : ℕ) → is_of member own x ≡ false → P xs k → P (x ∷ xs) (suc k)) where
-    found_split : (x : Response) (xs : List Response) (i : ℕ) (b : Bool) (o : Option ℕ) → is_of member own x ≡ b → ((k : ℕ) → o ≡ Some k → P xs k) → cond b (Some 0) (option_map (λ k. k + 1) o) ≡ Some i → P (x ∷ xs) i
-    found_split x xs i true o e more h = let at : 0 ≡ i = cc in subst (P (x ∷ xs)) at (here x xs e)
-    found_split x xs i false None e more h = absurd (let z : ◌≡◌ {A = ℕ} 0 1 = cc in omega arith)
-    found_split x xs i false (Some k) e more h =
-        let at : k + 1 ≡ i = cc in
-        subst (P (x ∷ xs)) (sym (add-one k) ∙ at) (behind x xs k e (more k refl))
-
-    at_found : (xs : List Response) (i : ℕ) → place_of member own xs ≡ Some i → P xs i
-    at_found [] i h = absurd (let z : ◌≡◌ {A = ℕ} 0 1 = cc in omega arith)
-    at_found (x ∷ xs) i h = found_split x xs i (is_of member own x) (place_of member own xs) refl (at_found xs) h
-
-  -- the response at the place that was found is the one
-  pub found_response : (d : Response) (xs : List Response) (i : ℕ) → place_of member own xs ≡ Some i → own_response member own xs ≡ Some (get_or xs i d)
-  found_response d =
-      at_found (λ xs i. own_response member own xs ≡ Some (get_or xs i d))
-      (λ x xs e. rw e)
-      (λ x xs k e h. rw e h)
+  none_removed (x ∷ xs) h = grind (arith, none_removed xs)
 
   -- to change the one is to change the response at the place that was found
   pub found_changed : (size : ℕ) (price : ℤ) (arrival : ℕ) (xs : List Response) (i : ℕ) → place_of member own xs ≡ Some i → own_changed member own size price arrival xs ≡ rewritten i size price arrival xs
-  found_changed size price arrival =
-      at_found (λ xs i. own_changed member own size price arrival xs ≡ rewritten i size price arrival xs)
-      (λ x xs e. rw e)
-      (λ x xs k e h. rw e (ap (λ ys. x ∷ ys) h))
+  found_changed size price arrival [] i h = grind arith
+  found_changed size price arrival (x ∷ xs) zero h = grind arith
+  found_changed size price arrival (x ∷ xs) (suc i) h = grind (arith, found_changed size price arrival xs i)
+
+  found_less : (xs : List Response) (i : ℕ) → place_of member own xs ≡ Some i → without_own member own xs ≡ take i xs ++ drop (suc i) xs
+  found_less [] i h = grind arith
+  found_less (x ∷ xs) zero h = grind arith
+  found_less (x ∷ xs) (suc i) h = grind (arith, found_less xs i)
 
   -- to remove the one is to remove the response at the place that was found
   pub found_without : (xs : List Response) (i : ℕ) → place_of member own xs ≡ Some i → without_own member own xs ≡ without_place i xs
-  found_without =
-      at_found (λ xs i. without_own member own xs ≡ without_place i xs)
-      (λ x xs e. rw e)
-      (λ x xs k e h. rw (e, add-one (suc k)) (ap (λ ys. x ∷ ys) (rw (add-one k) at h)))
+  found_without xs i h = rw (add-one i) (found_less xs i h)

@@ -2,6 +2,7 @@
 ghost use Rattle.std.specs.Prelude.{◌≡◌, Some};
 ghost use Rattle.std.specs.Fmt.{padded};
 ghost use Rattle.allocation.specs.Classes.{class_number, class_name};
+ghost use Rattle.allocation.specs.Table.{restored};
 
 use std::fmt;
 
@@ -48,6 +49,54 @@ pub struct Response {
     pub own: u8,
     pub kind: Kind,
     pub class: Class,
+    pub size: u32,
+    pub price: i64,
+    pub arrival: u32,
+}
+
+impl Response {
+    // A row of a table where no response stands.
+    pub(crate) const BLANK: Response = Response {
+        member: 0,
+        own: 0,
+        kind: Kind::Plain,
+        class: Class::Other,
+        size: 0,
+        price: 0,
+        arrival: 0,
+    };
+
+    // Which response of which member this is.
+    pub(crate) fn id(&self) -> ResponseId
+        ensures member { result.member ≡ self.now.member }
+        ensures own { result.own ≡ self.now.own }
+    {
+        ResponseId {
+            member: self.member,
+            own: self.own,
+        }
+    }
+
+    // Changes the size, price and arrival number.
+    pub(crate) fn restore(&mut self, to: NewTerms)
+        ensures { self.new ≡ restored to.size to.price to.arrival self.old }
+    {
+        self.size = to.size;
+        self.price = to.price;
+        self.arrival = to.arrival;
+    }
+}
+
+// A response of a member, by its own number.
+#[derive(Clone, Copy, PartialEq, Eq, Debug)]
+pub struct ResponseId {
+    pub member: u8,
+    pub own: u8,
+}
+
+// What a change gives a response: the price is turned, and the arrival number is a new one.
+#[derive(Clone, Copy, PartialEq, Eq, Debug)]
+pub struct NewTerms {
     pub size: u32,
     pub price: i64,
     pub arrival: u32,

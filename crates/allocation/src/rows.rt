@@ -1,88 +1,75 @@
 // Storing, finding, changing and removing the responses of a table.
-ghost use Rattle.std.specs.Prelude.{◌≡◌, ◌<◌, [], ◌∷◌, ◌++◌, length, IfSome};
-ghost use Rattle.allocation.specs.Table.{standing, Tabled, place_of, restored, rewritten, without_place};
+ghost use Rattle.std.specs.Prelude.{◌≡◌, ◌<◌, [], ◌∷◌, ◌++◌, length, IfSome, nat_lt};
+ghost use Rattle.allocation.specs.Table.{standing, place_of, own_response, rewritten, without_place};
 
-use crate::response::{Class, Kind, Response};
+use crate::response::{NewTerms, Response, ResponseId};
 use crate::table::ResponseTable;
-
-// Changes the size, price and arrival of one response.
-fn restore(row: &mut Response, size: u32, price: i64, arrival: u32)
-    ensures { row.new ≡ restored size price arrival row.old }
-{
-    row.size = size;
-    row.price = price;
-    row.arrival = arrival;
-}
 
 impl ResponseTable {
     // A table where no response stands.
     pub(crate) fn empty() -> ResponseTable
-        ensures standing { standing result ≡ [] }
-        ensures tabled { Tabled result }
+        ensures { standing result ≡ [] }
     {
-        let none = Response {
-            member: 0,
-            own: 0,
-            kind: Kind::Plain,
-            class: Class::Other,
-            size: 0,
-            price: 0,
-            arrival: 0,
-        };
         ResponseTable {
-            rows: [none; 64],
+            rows: [Response::BLANK; 64],
             len: 0,
         }
     }
 
+    // The responses that stand, in the order in which they were stored.
+    pub(crate) fn standing(&self) -> &[Response]
+        ensures { result.now ≡ standing self.now }
+    {
+        &self.rows[..self.len]
+    }
+
+    // Fewer responses stand than there are places.
+    pub(crate) fn has_place(&self) -> bool
+        ensures { result ≡ nat_lt (length (standing self.now)) 64 }
+    {
+        self.len < self.rows.len()
+    }
+
     // Stores one more response behind those that stand.
     pub(crate) fn push(&mut self, response: Response)
-        requires tabled { Tabled self.old }
-        requires room { self.old.len < 64 }
-        ensures standing { standing self.new ≡ standing self.old ++ response ∷ [] }
-        ensures tabled { Tabled self.new }
+        requires { self.old.len < 64 }
+        ensures { standing self.new ≡ standing self.old ++ response ∷ [] }
     {
         self.rows[self.len] = response;
         self.len += 1;
     }
 
     // The place of the first response of this member with this own number.
-    pub(crate) fn find(&self, member: u8, own: u8) -> Option<usize>
-        requires { Tabled self.now }
-        ensures value { result ≡ place_of member own (standing self.now) }
+    pub(crate) fn find(&self, of: ResponseId) -> Option<usize>
+        ensures value { result ≡ place_of of.member of.own (standing self.now) }
         ensures below { IfSome result (λ i. i < length (standing self.now)) }
     {
-        for i in 0..self.len {
-            let row = self.rows[i];
-            if row.member == member && row.own == own {
-                return Some(i);
-            }
-        }
-        None
+        self.standing().iter().position(|row| row.id() == of)
     }
 
-    // Changes the size, price and arrival of the response at this place, and of no other.
-    pub(crate) fn rewrite(&mut self, at: usize, size: u32, price: i64, arrival: u32)
-        requires tabled { Tabled self.old }
-        requires within { at < self.old.len }
-        ensures standing { standing self.new ≡ rewritten at size price arrival (standing self.old) }
-        ensures tabled { Tabled self.new }
+    // The standing response of this member with this own number, if there is one.
+    pub(crate) fn own_response(&self, of: ResponseId) -> Option<Response>
+        ensures { result ≡ own_response of.member of.own (standing self.now) }
     {
-        restore(&mut self.rows[at], size, price, arrival);
+        self.standing().iter().find(|row| row.id() == of).copied()
+    }
+
+    // Gives the response at this place other terms, and no other response.
+    #[tactic(auto, using(crate::proofs::Places::rewrite_front))]
+    pub(crate) fn rewrite(&mut self, at: usize, to: NewTerms)
+        requires { at < self.old.len }
+        ensures { standing self.new ≡ rewritten at to.size to.price to.arrival (standing self.old) }
+    {
+        self.rows[at].restore(to);
     }
 
     // Removes the response at this place; each one behind it comes one place forward.
+    #[tactic(auto, using(crate::proofs::Places::closed_up))]
     pub(crate) fn remove(&mut self, at: usize)
-        requires tabled { Tabled self.old }
-        requires within { at < self.old.len }
-        ensures standing { standing self.new ≡ without_place at (standing self.old) }
-        ensures tabled { Tabled self.new }
+        requires { at < self.old.len }
+        ensures { standing self.new ≡ without_place at (standing self.old) }
     {
-        let end = self.len - 1;
-        for i in at..end {
-            let next = self.rows[i + 1];
-            self.rows[i] = next;
-        }
-        self.len = end;
+        self.rows.copy_within(at + 1..self.len, at);
+        self.len -= 1;
     }
 }

@@ -1,8 +1,13 @@
 // The responses that stand in an auction: at most 64, since 16 members have 4 own numbers each.
+ghost use Rattle.std.specs.Prelude.{◌≡◌, ◌≤◌, length};
+
 use crate::response::Response;
 
+// The rule of the project is fixed memory: 64 rows and how many of them stand, and no heap.
 #[derive(Clone, Copy)]
 pub struct ResponseTable {
     pub(crate) rows: [Response; 64],
     pub(crate) len: usize,
+    ghost few: { len ≤ 64 },
+    ghost places: { length rows ≡ 64 },
 }

@@ -4,7 +4,7 @@ use allocation::fill::FillRow;
 use allocation::order::{Guarantee, GuaranteeKind, PairedOrder};
 use allocation::ranking::Ranking;
 use allocation::rankings::{EarlierArrival, LargerSize};
-use allocation::response::{Class, Kind, Response};
+use allocation::response::{Class, Kind, NewTerms, Response, ResponseId};
 use market::side::Side;
 use std::io;
 
@@ -285,6 +285,19 @@ fn lengths(rt: &HostRuntime) -> io::Result<()> {
     }
 }
 
+// The response that a member numbered 1.
+fn first_of(member: u8) -> ResponseId {
+    ResponseId { member, own: 1 }
+}
+
+fn terms(size: u32, price: i64, arrival: u32) -> NewTerms {
+    NewTerms {
+        size,
+        price,
+        arrival,
+    }
+}
+
 // A change gives a new arrival number, and so a later place among equals; what is withdrawn is not listed; what cannot
 // stand is refused, and nothing changes.
 fn changes(rt: &HostRuntime) -> io::Result<()> {
@@ -294,12 +307,12 @@ fn changes(rt: &HostRuntime) -> io::Result<()> {
     };
     let three_alike = [2, 3, 4].map(|member| other(member, 20, 297));
     let stored = store_all(&mut auction, &three_alike);
-    let changed = auction.change(2, 1, 21, 297, 4);
-    let missing = auction.change(5, 1, 21, 297, 5);
-    let above = auction.change(3, 1, 20, 305, 6);
-    let again = auction.change(3, 1, 20, 297, 4);
-    let withdrawn = auction.withdraw(4, 1);
-    let twice = auction.withdraw(4, 1);
+    let changed = auction.change(first_of(2), terms(21, 297, 4));
+    let missing = auction.change(first_of(5), terms(21, 297, 5));
+    let above = auction.change(first_of(3), terms(20, 305, 6));
+    let again = auction.change(first_of(3), terms(20, 297, 4));
+    let withdrawn = auction.withdraw(first_of(4));
+    let twice = auction.withdraw(first_of(4));
     println!(rt;
         "  stored {stored}, changed {changed} {missing} {above} {again}, withdrawn {withdrawn} {twice}"
     )?;

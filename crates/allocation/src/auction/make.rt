@@ -1,57 +1,51 @@
 // Making an auction.
 ghost use Rattle.std.specs.Prelude.{◌≡◌, [], length, Some};
 ghost use Rattle.std.specs.Option.{option_map};
-ghost use Rattle.market.specs.Prices.{showable};
 ghost use Rattle.allocation.specs.Auction.{auction_values, new_auction};
-ghost use Rattle.allocation.specs.AuctionInvariant.{terms_ok, range_ok, guarantee_ok, stop_ok, from_to};
+ghost use Rattle.allocation.specs.AuctionInvariant.{terms_ok, range_ok, guarantee_ok, stop_ok};
 
 use super::Auction;
-use crate::order::{Guarantee, GuaranteeKind, PairedOrder};
-use crate::response::{Class, Kind, Response};
+use crate::limits::is_size;
+use crate::order::{GuaranteeKind, PairedOrder};
 use crate::table::ResponseTable;
+use market::prices::is_showable;
 
-const MOST_SHOWN: i64 = 50_000_000;
-
-fn is_showable(price: i64) -> bool
-    ensures { result ≡ showable (Some price) }
-{
-    -MOST_SHOWN <= price && price <= MOST_SHOWN
+// What an auction is made of; prices are turned.
+#[derive(Clone, Copy)]
+pub(crate) struct AuctionTerms {
+    pub(crate) order: PairedOrder,
+    pub(crate) floor: i64,
+    pub(crate) initiating: i64,
 }
 
-fn stop_holds(guarantee: &Guarantee, floor: i64) -> bool
-    ensures { result ≡ stop_ok guarantee.now.kind floor guarantee.now.price }
-{
-    match guarantee.kind {
-        GuaranteeKind::SingleStop => floor <= guarantee.price,
-        GuaranteeKind::AutoMatchLimit => true,
+impl AuctionTerms {
+    fn stop_holds(&self) -> bool
+        ensures { result ≡ stop_ok self.now.order.guarantee.kind self.now.floor self.now.order.guarantee.price }
+    {
+        match self.order.guarantee.kind {
+            GuaranteeKind::SingleStop => self.floor <= self.order.guarantee.price,
+            GuaranteeKind::AutoMatchLimit => true,
+        }
     }
-}
 
-fn range_holds(floor: i64, initiating: i64) -> bool
-    ensures { result ≡ range_ok floor initiating }
-{
-    is_showable(floor) && is_showable(initiating) && floor <= initiating
-}
+    fn range_holds(&self) -> bool
+        ensures { result ≡ range_ok self.now.floor self.now.initiating }
+    {
+        is_showable(self.floor) && is_showable(self.initiating) && self.floor <= self.initiating
+    }
 
-fn guarantee_holds(guarantee: &Guarantee, floor: i64, initiating: i64) -> bool
-    ensures { result ≡ guarantee_ok guarantee.now floor initiating }
-{
-    guarantee.price <= initiating && stop_holds(guarantee, floor)
-}
+    fn guarantee_holds(&self) -> bool
+        ensures { result ≡ guarantee_ok self.now.order.guarantee self.now.floor self.now.initiating }
+    {
+        self.order.guarantee.price <= self.initiating && self.stop_holds()
+    }
 
-fn size_holds(size: u32) -> bool
-    ensures { result ≡ from_to 1 100000 size }
-{
-    1 <= size && size <= 100_000
-}
-
-// An auction can have these terms.
-pub(crate) fn terms_hold(order: &PairedOrder, floor: i64, initiating: i64) -> bool
-    ensures { result ≡ terms_ok order.now floor initiating }
-{
-    size_holds(order.size)
-        && range_holds(floor, initiating)
-        && guarantee_holds(&order.guarantee, floor, initiating)
+    // An auction can have these terms.
+    pub(crate) fn hold(&self) -> bool
+        ensures { result ≡ terms_ok self.now.order self.now.floor self.now.initiating }
+    {
+        is_size(self.order.size) && self.range_holds() && self.guarantee_holds()
+    }
 }
 
 impl Auction {
@@ -59,7 +53,12 @@ impl Auction {
     pub fn new(order: PairedOrder, floor: i64, initiating: i64) -> Option<Auction>
         ensures { option_map auction_values result ≡ new_auction order floor initiating }
     {
-        if !terms_hold(&order, floor, initiating) {
+        let terms = AuctionTerms {
+            order,
+            floor,
+            initiating,
+        };
+        if !terms.hold() {
             return None;
         }
         Some(Auction {

@@ -1,6 +1,7 @@
 // The values of an auction: the order with its guarantee, its range, and the responses that stand. Prices are turned.
-ghost use Rattle.std.specs.Prelude.{◌≡◌, ◌≤◌, true, length, take};
+ghost use Rattle.std.specs.Prelude.{◌≡◌, true};
 ghost use Rattle.allocation.specs.AuctionInvariant.{terms_ok, response_ok, each, arrivals_apart, owns_apart};
+ghost use Rattle.allocation.specs.Table.{standing};
 
 use crate::order::PairedOrder;
 use crate::table::ResponseTable;
@@ -14,6 +15,7 @@ pub mod read;
 pub mod store;
 pub mod withdraw;
 
+// What changes an auction answers yes or no: no error would say more than that nothing changed.
 #[derive(Clone, Copy)]
 pub struct Auction {
     pub(crate) order: PairedOrder,
@@ -21,9 +23,7 @@ pub struct Auction {
     pub(crate) initiating: i64,
     pub(crate) table: ResponseTable,
     ghost terms: { terms_ok order floor initiating ≡ true },
-    ghost few: { table.len ≤ 64 },
-    ghost places: { length table.rows ≡ 64 },
-    ghost responses: { each (response_ok order.size floor initiating) (take table.len table.rows) ≡ true },
-    ghost apart: { arrivals_apart (take table.len table.rows) ≡ true },
-    ghost owns: { owns_apart (take table.len table.rows) ≡ true },
+    ghost responses: { each (response_ok order.size floor initiating) (standing table) ≡ true },
+    ghost apart: { arrivals_apart (standing table) ≡ true },
+    ghost owns: { owns_apart (standing table) ≡ true },
 }

@@ -1,18 +1,11 @@
 // Reading an auction.
-ghost use Rattle.std.specs.Prelude.{◌≡◌, int_lt};
+ghost use Rattle.std.specs.Prelude.{◌≡◌};
 ghost use Rattle.allocation.specs.Auction.{auction_values};
 ghost use Rattle.allocation.specs.Table.{own_response, any_below};
 
 use super::Auction;
 use crate::order::PairedOrder;
-use crate::response::Response;
-
-// A response at a price below this one.
-fn is_below(response: &Response, price: i64) -> bool
-    ensures { result ≡ int_lt response.now.price price }
-{
-    response.price < price
-}
+use crate::response::{Response, ResponseId};
 
 impl Auction {
     // The order with its guarantee, as stored.
@@ -37,18 +30,19 @@ impl Auction {
     }
 
     // The standing response of this member with this own number, if there is one.
-    pub fn response_of(&self, member: u8, own: u8) -> Option<Response>
-        ensures { result ≡ own_response member own (auction_values self.now).stood }
+    pub fn response_of(&self, of: ResponseId) -> Option<Response>
+        ensures { result ≡ own_response of.member of.own (auction_values self.now).stood }
     {
-        self.table.own_response(member, own)
+        self.table.own_response(of)
     }
 
     // A response stands at a price below this one, both turned.
     pub fn is_any_below(&self, price: i64) -> bool
         ensures { result ≡ any_below price (auction_values self.now).stood }
     {
-        for response in &self.table.rows[0..self.table.len] {
-            if is_below(response, price) {
+        // The rule of the project: the response below the floor is found by a `for` over the rows that stand.
+        for response in self.table.standing() {
+            if response.price < price {
                 return true;
             }
         }

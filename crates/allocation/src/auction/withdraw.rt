@@ -4,19 +4,19 @@ ghost use Rattle.allocation.specs.Auction.{auction_values, withdrawn};
 ghost use Rattle.allocation.specs.Table.{standing, place_of};
 
 use super::Auction;
+use crate::response::ResponseId;
 
 impl Auction {
     // Withdraws the response of this member with this own number; false where none stands.
-    pub fn withdraw(&mut self, member: u8, own: u8) -> bool
-        ensures answer { result ≡ is_some (place_of member own (standing self.old.table)) }
-        ensures after { auction_values self.new ≡ withdrawn (auction_values self.old) member own }
+    #[tactic(auto, using(crate::proofs::AuctionKept::each_without, crate::proofs::AuctionKept::apart_without, crate::proofs::OwnsKept::owns_without))]
+    pub fn withdraw(&mut self, of: ResponseId) -> bool
+        ensures answer { result ≡ is_some (place_of of.member of.own (standing self.old.table)) }
+        ensures after { auction_values self.new ≡ withdrawn (auction_values self.old) of.member of.own }
     {
-        match self.table.find(member, own) {
-            None => false,
-            Some(at) => {
-                self.table.remove(at);
-                true
-            }
-        }
+        let Some(at) = self.table.find(of) else {
+            return false;
+        };
+        self.table.remove(at);
+        true
     }
 }

@@ -9,7 +9,7 @@ ghost use Rattle.room.specs.State.{used_by};
 use super::CurrentAuction;
 use crate::refusal::Refusal;
 use crate::requests::{ChangeRequest, ResponseRequest};
-use allocation::response::{Kind, Response};
+use allocation::response::{Kind, Response, ResponseId};
 use market::side::Side;
 
 // A member's 10,000 accepted responses and changes in an auction.
@@ -74,11 +74,11 @@ impl CurrentAuction {
         if self.is_above(request.price) {
             return Some(Refusal::AboveInitiating);
         }
-        if self
-            .auction
-            .response_of(request.member, request.own)
-            .is_some()
-        {
+        let of = ResponseId {
+            member: request.member,
+            own: request.own,
+        };
+        if self.auction.response_of(of).is_some() {
             return Some(Refusal::OwnNumberInUse);
         }
         if self.used_by(request.member) >= MOST_USED {

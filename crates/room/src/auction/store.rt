@@ -15,7 +15,7 @@ use super::CurrentAuction;
 use crate::answers::StoredTerms;
 use crate::requests::{ChangeRequest, ResponseRequest, WithdrawRequest};
 use allocation::auction::Auction;
-use allocation::response::Response;
+use allocation::response::{NewTerms, Response, ResponseId};
 
 impl CurrentAuction {
     // The higher of a price and the floor, turned.
@@ -102,7 +102,17 @@ impl CurrentAuction {
         let size = self.stored_size(request.size);
         let told = self.told(price, size);
         let mut auction = self.auction;
-        let _ = auction.change(request.member, request.own, size, price, self.arrivals + 1);
+        let of = ResponseId {
+            member: request.member,
+            own: request.own,
+        };
+        let arrival = self.arrivals + 1;
+        let to = NewTerms {
+            size,
+            price,
+            arrival,
+        };
+        let _ = auction.change(of, to);
         self.put(auction, request.member);
         told
     }
@@ -115,7 +125,11 @@ impl CurrentAuction {
     {
         let told = self.told(standing.price, standing.size);
         let mut auction = self.auction;
-        let _ = auction.withdraw(request.member, request.own);
+        let of = ResponseId {
+            member: request.member,
+            own: request.own,
+        };
+        let _ = auction.withdraw(of);
         *self = CurrentAuction {
             number: self.number,
             deadline: self.deadline,

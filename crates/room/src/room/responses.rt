@@ -11,6 +11,7 @@ use crate::refusal::Refusal;
 use crate::requests::{ChangeRequest, ResponseRequest, WithdrawRequest};
 use allocation::cause::EndCause;
 use allocation::ranking::Ranking;
+use allocation::response::ResponseId;
 use interval::source::IntervalSource;
 use market::market::Market;
 
@@ -53,7 +54,11 @@ impl<M: Market, R: Ranking, S: IntervalSource> Room<M, R, S> {
         let Some(mut open) = self.current else {
             return Err(Refusal::NoAuctionOpen);
         };
-        let Some(standing) = open.auction.response_of(request.member, request.own) else {
+        let of = ResponseId {
+            member: request.member,
+            own: request.own,
+        };
+        let Some(standing) = open.auction.response_of(of) else {
             return Err(Refusal::NoSuchResponse);
         };
         if let Some(refusal) = open.change_refusal(&standing, &request) {
@@ -77,7 +82,11 @@ impl<M: Market, R: Ranking, S: IntervalSource> Room<M, R, S> {
         let Some(mut open) = self.current else {
             return Err(Refusal::NoAuctionOpen);
         };
-        let Some(standing) = open.auction.response_of(request.member, request.own) else {
+        let of = ResponseId {
+            member: request.member,
+            own: request.own,
+        };
+        let Some(standing) = open.auction.response_of(of) else {
             return Err(Refusal::NoSuchResponse);
         };
         if is_plain(standing.kind) {

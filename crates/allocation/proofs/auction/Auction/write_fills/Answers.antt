@@ -25,7 +25,7 @@ pub invariant_of-share_out : goal.invariant_of-share_out
 invariant_of-share_out g c =
     let a = c.args.self.now in
     let terms = terms_hold a.order a.floor a.initiating a.terms in
-    let few : length (take a.table.len a.table.rows) ≤ 64 = simp length-take (omega (arith, a.few)) in
+    let few : length (take a.table.len a.table.rows) ≤ 64 = simp length-take (omega (arith, a.table.few)) in
     let sized = all_sized a.order.size a.floor a.initiating (standing a.table) terms.size_most terms.floor_shown terms.initiating_shown a.responses in
     record { sound = subst Sound (sym c.arrange.ensures) (sound_arranged (by_key (g.R.Ranking.ahead c.args.ranking.now)) (standing a.table) (few, sized)) }
 

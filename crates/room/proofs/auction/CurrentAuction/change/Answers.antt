@@ -20,8 +20,8 @@ told-told-requires c =
     ap (λ (z : ℤ). showable (Some z)) (to_z-of_z w64 c.stored_price-price.result fits ∙ c.stored_price-price.ensures ∙ ap (stored_price (open_values a)) (to_z-of_z w64 x.price asked))
     ∙ stored_shown a x.member x.size x.price c.requires.terms
 
-pub overflow_add-self : goal.overflow_add-self
-overflow_add-self c =
+pub overflow_add-arrival : goal.overflow_add-arrival
+overflow_add-arrival c =
     let a = c.args.self.now in
     let most = total_most a.used a.few in
     let members = a.members in
