@@ -14,19 +14,13 @@ use market::range::TurnedQuote;
 fn is_above(shown: Option<i64>, price: i64) -> bool
     ensures { result ≡ shown_above shown price }
 {
-    match shown {
-        None => false,
-        Some(z) => price < z,
-    }
+    shown.is_some_and(|z| price < z)
 }
 
 fn is_below(shown: Option<i64>, price: i64) -> bool
     ensures { result ≡ shown_below shown price }
 {
-    match shown {
-        None => false,
-        Some(z) => z < price,
-    }
+    shown.is_some_and(|z| z < price)
 }
 
 impl CurrentAuction {
@@ -34,10 +28,7 @@ impl CurrentAuction {
     fn is_response_below(&self, floor: Option<i64>) -> bool
         ensures { result ≡ above_response floor (open_values self.now).values.stood }
     {
-        match floor {
-            None => false,
-            Some(z) => self.auction.is_any_below(z),
-        }
+        floor.is_some_and(|z| self.auction.is_any_below(z))
     }
 
     // The floor is above a single stop.
@@ -45,10 +36,7 @@ impl CurrentAuction {
         ensures { result ≡ above_stop floor (open_values self.now).values.order.guarantee.kind (open_values self.now).values.order.guarantee.price }
     {
         let guarantee = self.auction.order().guarantee;
-        match guarantee.kind {
-            GuaranteeKind::SingleStop => is_above(floor, guarantee.price),
-            GuaranteeKind::AutoMatchLimit => false,
-        }
+        guarantee.kind == GuaranteeKind::SingleStop && is_above(floor, guarantee.price)
     }
 
     // The first cause that what is now shown brings: B, C, D, F.
@@ -77,15 +65,7 @@ impl CurrentAuction {
         ensures { open_values self.new ≡ at_floor (floor_now shown.now.floor (open_values self.old).values.floor) (open_values self.old) }
     {
         if let Some(floor) = shown.floor {
-            let mut auction = self.auction;
-            let _ = auction.move_floor(floor);
-            *self = CurrentAuction {
-                number: self.number,
-                deadline: self.deadline,
-                auction,
-                arrivals: self.arrivals,
-                used: self.used,
-            };
+            let _ = self.auction.move_floor(floor);
         }
     }
 

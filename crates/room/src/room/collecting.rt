@@ -8,10 +8,9 @@ ghost use Rattle.room.specs.State.{is_number, numbered, without_number};
 use super::Room;
 use crate::answers::Collection;
 use crate::auction::WaitingAuction;
-use crate::checks::rows_refusal;
 use crate::claim::Claim;
 use crate::refusal::Refusal;
-use allocation::fill::FillRow;
+use allocation::fill::{FillRow, LEAST_ROWS};
 use allocation::ranking::Ranking;
 use interval::source::IntervalSource;
 use market::market::Market;
@@ -19,10 +18,7 @@ use market::market::Market;
 fn has_number(place: &Option<WaitingAuction>, number: u32) -> bool
     ensures { result ≡ has_number number place.now }
 {
-    match place {
-        Some(ended) => ended.number == number,
-        None => false,
-    }
+    place.is_some_and(|ended| ended.number == number)
 }
 
 impl<M: Market, R: Ranking, S: IntervalSource> Room<M, R, S> {
@@ -42,18 +38,15 @@ impl<M: Market, R: Ranking, S: IntervalSource> Room<M, R, S> {
     fn is_open(&self, number: u32) -> bool
         ensures { result ≡ is_number number (option_map open_values self.now.current) }
     {
-        match self.current {
-            Some(open) => open.number == number,
-            None => false,
-        }
+        self.current.is_some_and(|open| open.number == number)
     }
 
     // The auction of a claim, or the first refusal.
     fn collectable(&self, claim: &Claim, rows: usize) -> Result<WaitingAuction, Refusal<M::Fault>>
         ensures { waiting_result result ≡ collectable (state_of M.Market.position S.IntervalSource.position self.now) (claim_numbers claim.now) rows }
     {
-        if let Some(refusal) = rows_refusal(rows) {
-            return Err(refusal);
+        if rows < LEAST_ROWS {
+            return Err(Refusal::ListTooShort);
         }
         if claim.room != self.number {
             return Err(Refusal::NoSuchAuction);
@@ -61,10 +54,8 @@ impl<M: Market, R: Ranking, S: IntervalSource> Room<M, R, S> {
         if self.is_open(claim.auction) {
             return Err(Refusal::StillOpen);
         }
-        match self.numbered(claim.auction) {
-            Some(ended) => Ok(ended),
-            None => Err(Refusal::NoSuchAuction),
-        }
+        self.numbered(claim.auction)
+            .ok_or_else(|| Refusal::NoSuchAuction)
     }
 
     // Takes the auction of this number out of those that wait.
@@ -91,6 +82,7 @@ impl<M: Market, R: Ranking, S: IntervalSource> Room<M, R, S> {
         ensures rows { rows.new ≡ collect_rows (world_of M.Market.meaning S.IntervalSource.meaning (R.Ranking.ahead self.old.ranking)) (state_of M.Market.position S.IntervalSource.position self.old) (claim_numbers claim) (length rows.old) ++ drop (length (collect_rows (world_of M.Market.meaning S.IntervalSource.meaning (R.Ranking.ahead self.old.ranking)) (state_of M.Market.position S.IntervalSource.position self.old) (claim_numbers claim) (length rows.old))) rows.old }
         ensures ranking { self.new.ranking ≡ self.old.ranking }
     {
+        // A match and no `map_err`: no closure can hold the claim, which cannot be dropped.
         let ended = match self.collectable(&claim, rows.len()) {
             Ok(ended) => ended,
             Err(refusal) => return Err((refusal, claim)),

@@ -5,12 +5,11 @@ ghost use Rattle.room.specs.Rooms.{state_of};
 
 use super::Room;
 use crate::answers::StoredTerms;
-use crate::auction::responses::is_plain;
-use crate::checks::{change_refusal, response_refusal, withdrawal_refusal};
 use crate::refusal::Refusal;
 use crate::requests::{ChangeRequest, ResponseRequest, WithdrawRequest};
 use allocation::cause::EndCause;
 use allocation::ranking::Ranking;
+use allocation::response::Kind;
 use interval::source::IntervalSource;
 use market::market::Market;
 
@@ -21,18 +20,14 @@ impl<M: Market, R: Ranking, S: IntervalSource> Room<M, R, S> {
         ensures answer { result ≡ (respond_call (state_of M.Market.position S.IntervalSource.position self.old) request).1 }
         ensures ranking { self.new.ranking ≡ self.old.ranking }
     {
-        if let Some(refusal) = response_refusal(&request) {
-            return Err(refusal);
-        }
-        self.step_clock(request.time);
+        let response = request.checked()?;
+        self.step_clock(response.time);
         let Some(mut open) = self.current else {
             return Err(Refusal::NoAuctionOpen);
         };
-        if let Some(refusal) = open.response_refusal(&request) {
-            return Err(refusal);
-        }
-        let ends = open.is_plain_below_floor(&request);
-        let stored = open.store(&request);
+        open.check_response(&response)?;
+        let ends = open.is_plain_below_floor(&response);
+        let stored = open.store(&response);
         self.current = Some(open);
         if ends {
             self.end(EndCause::PlainBelowFloor);
@@ -46,20 +41,19 @@ impl<M: Market, R: Ranking, S: IntervalSource> Room<M, R, S> {
         ensures answer { result ≡ (change_call (state_of M.Market.position S.IntervalSource.position self.old) request).1 }
         ensures ranking { self.new.ranking ≡ self.old.ranking }
     {
-        if let Some(refusal) = change_refusal(&request) {
-            return Err(refusal);
-        }
-        self.step_clock(request.time);
+        let change = request.checked()?;
+        self.step_clock(change.time);
         let Some(mut open) = self.current else {
             return Err(Refusal::NoAuctionOpen);
         };
-        let Some(standing) = open.auction.response_of(request.member, request.own) else {
+        let Some(standing) = open
+            .auction
+            .response_of(change.member.number, change.own.number)
+        else {
             return Err(Refusal::NoSuchResponse);
         };
-        if let Some(refusal) = open.change_refusal(&standing, &request) {
-            return Err(refusal);
-        }
-        let stored = open.change(&request);
+        open.check_change(&standing, &change)?;
+        let stored = open.change(&change);
         self.current = Some(open);
         Ok(stored)
     }
@@ -70,20 +64,21 @@ impl<M: Market, R: Ranking, S: IntervalSource> Room<M, R, S> {
         ensures answer { result ≡ (withdraw_call (state_of M.Market.position S.IntervalSource.position self.old) request).1 }
         ensures ranking { self.new.ranking ≡ self.old.ranking }
     {
-        if let Some(refusal) = withdrawal_refusal(&request) {
-            return Err(refusal);
-        }
-        self.step_clock(request.time);
+        let withdrawal = request.checked()?;
+        self.step_clock(withdrawal.time);
         let Some(mut open) = self.current else {
             return Err(Refusal::NoAuctionOpen);
         };
-        let Some(standing) = open.auction.response_of(request.member, request.own) else {
+        let Some(standing) = open
+            .auction
+            .response_of(withdrawal.member.number, withdrawal.own.number)
+        else {
             return Err(Refusal::NoSuchResponse);
         };
-        if is_plain(standing.kind) {
+        if standing.kind == Kind::Plain {
             return Err(Refusal::ResponseIsPlain);
         }
-        let stored = open.withdraw(&request, &standing);
+        let stored = open.withdraw(&withdrawal, &standing);
         self.current = Some(open);
         Ok(stored)
     }

@@ -5,7 +5,7 @@ ghost use Rattle.room.specs.Rooms.{state_of, open_values, world_of};
 ghost use Rattle.room.specs.Ticks.{ticked, tick_call};
 
 use super::Room;
-use crate::checks::time_refusal;
+use crate::limits::Time;
 use crate::refusal::Refusal;
 use allocation::ranking::Ranking;
 use interval::source::IntervalSource;
@@ -42,10 +42,7 @@ where
         ensures answer { result ≡ (tick_call (world_of M.Market.meaning S.IntervalSource.meaning (R.Ranking.ahead self.old.ranking)) (state_of M.Market.position S.IntervalSource.position self.old) time tick).1 }
         ensures ranking { self.new.ranking ≡ self.old.ranking }
     {
-        if let Some(refusal) = time_refusal(time) {
-            return Err(refusal);
-        }
-        self.step_clock(time);
+        self.step_clock(Time::checked(time)?);
         self.market.tick(tick)?;
         self.take_notice();
         Ok(())

@@ -14,16 +14,16 @@ told-told-requires c =
     let v = auction_values a in
     let fits : SFits w64 c.args.standing.now.price = search rules in
     ap (λ (z : ℤ). showable (Some z)) (to_z-of_z w64 c.args.standing.now.price fits)
-    ∙ standing_shown c.args.request.now.member c.args.request.now.own v.order.size v.floor v.initiating v.stood c.args.standing.now (terms_of a).floor_shown (terms_of a).initiating_shown a.responses c.requires
+    ∙ standing_shown c.args.withdrawal.now.member.number c.args.withdrawal.now.own.number v.order.size v.floor v.initiating v.stood c.args.standing.now (terms_of a).floor_shown (terms_of a).initiating_shown a.responses c.requires
 
 pub invariant_of-self : goal.invariant_of-self
 invariant_of-self c =
     let a = c.args.self.now in
-    let stood = ap (λ (v : AuctionValues). v.stood) (c.withdraw.ensures.after ∙ own_removed (auction_values a.auction) c.args.request.now.member c.args.request.now.own) in
-    record { members = a.members; few = a.few; counted = a.counted; arrived = ap (all_arrived a.arrivals) stood ∙ arrived_without a.arrivals c.args.request.now.member c.args.request.now.own (auction_values a.auction).stood a.arrived }
+    let stood = ap (λ (v : AuctionValues). v.stood) (c.withdraw.ensures.after ∙ own_removed (auction_values a.auction) c.args.withdrawal.now.member.number c.args.withdrawal.now.own.number) in
+    record { members = a.members; few = a.few; counted = a.counted; arrived = ap (all_arrived a.arrivals) stood ∙ arrived_without a.arrivals c.args.withdrawal.now.member.number c.args.withdrawal.now.own.number (auction_values a.auction).stood a.arrived }
 
 pub returns-clause-after : goal.returns-clause-after
 returns-clause-after c =
     let a = c.args.self.now in
-    let values = c.withdraw.ensures.after ∙ own_removed (auction_values a.auction) c.args.request.now.member c.args.request.now.own in
+    let values = c.withdraw.ensures.after ∙ own_removed (auction_values a.auction) c.args.withdrawal.now.member.number c.args.withdrawal.now.own.number in
     ap (λ (v : AuctionValues). record { number = a.number; deadline = a.deadline; values = v; arrivals = a.arrivals; used = a.used }) values
