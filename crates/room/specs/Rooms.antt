@@ -18,7 +18,7 @@ use Rattle.room.specs.State.{OpenAuction, EndedAuction, RoomState}
 use Rattle.room.specs.World.{World}
 
 abbrev pub claim_numbers : Claim → ClaimNumbers
-claim_numbers c = record { room = c.room; auction = c.auction }
+claim_numbers c = c.numbers
 
 abbrev pub open_values : CurrentAuction → OpenAuction
 open_values a = record { number = a.number; deadline = a.deadline; values = auction_values a.auction; arrivals = a.arrivals; used = a.used }

@@ -3,7 +3,7 @@ ghost use Rattle.std.specs.Prelude.{◌≡◌, true, None as Nothing};
 ghost use Rattle.market.specs.Prices.{showable};
 ghost use Rattle.room.specs.Looks.{auction_view};
 ghost use Rattle.room.specs.Rooms.{open_values};
-ghost use Rattle.room.specs.Ticks.{shown_above, shown_below, above_response, above_stop, tick_cause, floor_now, at_floor};
+ghost use Rattle.room.specs.Ticks.{shown_above, above_response, above_stop, tick_cause, floor_now, at_floor};
 
 use super::CurrentAuction;
 use crate::answers::AuctionView;
@@ -15,12 +15,6 @@ fn is_above(shown: Option<i64>, price: i64) -> bool
     ensures { result ≡ shown_above shown price }
 {
     shown.is_some_and(|z| price < z)
-}
-
-fn is_below(shown: Option<i64>, price: i64) -> bool
-    ensures { result ≡ shown_below shown price }
-{
-    shown.is_some_and(|z| z < price)
 }
 
 impl CurrentAuction {
@@ -52,7 +46,8 @@ impl CurrentAuction {
         if self.is_stop_below(shown.floor) {
             return Some(EndCause::FloorAboveStop);
         }
-        if is_below(shown.contra, self.auction.order().guarantee.price) {
+        let guarantee = self.auction.order().guarantee;
+        if shown.contra.is_some_and(|z| z < guarantee.price) {
             return Some(EndCause::ContraBelowGuarantee);
         }
         None

@@ -19,13 +19,12 @@ impl<M: Market, R: Ranking, S: IntervalSource> Room<M, R, S> {
         ensures state { state_of M.Market.position S.IntervalSource.position self.new ≡ ended cause (state_of M.Market.position S.IntervalSource.position self.old) }
         ensures ranking { self.new.ranking ≡ self.old.ranking }
     {
-        if let Some(open) = self.current {
+        if let Some(open) = self.current.take() {
             let ended = Some(WaitingAuction {
                 number: open.number,
                 auction: open.auction,
                 cause,
             });
-            self.current = None;
             if self.first.is_none() {
                 self.first = ended;
             } else {

@@ -26,13 +26,8 @@ impl<M: Market, R: Ranking, S: IntervalSource> Room<M, R, S> {
     fn numbered(&self, number: u32) -> Option<WaitingAuction>
         ensures { option_map ended_values result ≡ numbered number (listed self.now.first self.now.second) }
     {
-        if has_number(&self.first, number) {
-            return self.first;
-        }
-        if has_number(&self.second, number) {
-            return self.second;
-        }
-        None
+        let has_it = |ended: &WaitingAuction| ended.number == number;
+        self.first.filter(has_it).or(self.second.filter(has_it))
     }
 
     fn is_open(&self, number: u32) -> bool
@@ -48,13 +43,13 @@ impl<M: Market, R: Ranking, S: IntervalSource> Room<M, R, S> {
         if rows < LEAST_ROWS {
             return Err(Refusal::ListTooShort);
         }
-        if claim.room != self.number {
+        if claim.numbers.room != self.number {
             return Err(Refusal::NoSuchAuction);
         }
-        if self.is_open(claim.auction) {
+        if self.is_open(claim.numbers.auction) {
             return Err(Refusal::StillOpen);
         }
-        self.numbered(claim.auction)
+        self.numbered(claim.numbers.auction)
             .ok_or_else(|| Refusal::NoSuchAuction)
     }
 
@@ -64,8 +59,7 @@ impl<M: Market, R: Ranking, S: IntervalSource> Room<M, R, S> {
         ensures ranking { self.new.ranking ≡ self.old.ranking }
     {
         if has_number(&self.first, number) {
-            self.first = self.second;
-            self.second = None;
+            self.first = self.second.take();
         } else if has_number(&self.second, number) {
             self.second = None;
         }
@@ -87,11 +81,11 @@ impl<M: Market, R: Ranking, S: IntervalSource> Room<M, R, S> {
             Ok(ended) => ended,
             Err(refusal) => return Err((refusal, claim)),
         };
-        let Claim { room: _, auction } = claim;
+        let Claim { numbers } = claim;
         let Ok(count) = ended.auction.fill(&self.ranking, rows) else {
             unreachable()
         };
-        self.remove(auction);
+        self.remove(numbers.auction);
         Ok(Collection {
             count,
             cause: ended.cause,

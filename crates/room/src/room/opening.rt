@@ -10,6 +10,7 @@ ghost use Rattle.room.specs.Refusals.{refusal};
 ghost use Rattle.room.specs.Rooms.{claim_answer, listed, range_result, state_of, world_of};
 
 use super::Room;
+use crate::answers::ClaimNumbers;
 use crate::auction::CurrentAuction;
 use crate::claim::Claim;
 use crate::handed_in::CheckedOrder;
@@ -123,8 +124,10 @@ impl<M: Market, R: Ranking, S: IntervalSource> Room<M, R, S> {
         let range = self.opening_range(&opening.order)?;
         self.begin(&opening.order, range);
         Ok(Claim {
-            room: self.number,
-            auction: self.opened,
+            numbers: ClaimNumbers {
+                room: self.number,
+                auction: self.opened,
+            },
         })
     }
 }

@@ -22,13 +22,12 @@ impl<M: Market, R: Ranking, S: IntervalSource> Room<M, R, S> {
     {
         let response = request.checked()?;
         self.step_clock(response.time);
-        let Some(mut open) = self.current else {
+        let Some(open) = &mut self.current else {
             return Err(Refusal::NoAuctionOpen);
         };
         open.check_response(&response)?;
         let ends = open.is_plain_below_floor(&response);
         let stored = open.store(&response);
-        self.current = Some(open);
         if ends {
             self.end(EndCause::PlainBelowFloor);
         }
@@ -43,7 +42,7 @@ impl<M: Market, R: Ranking, S: IntervalSource> Room<M, R, S> {
     {
         let change = request.checked()?;
         self.step_clock(change.time);
-        let Some(mut open) = self.current else {
+        let Some(open) = &mut self.current else {
             return Err(Refusal::NoAuctionOpen);
         };
         let Some(standing) = open
@@ -54,7 +53,6 @@ impl<M: Market, R: Ranking, S: IntervalSource> Room<M, R, S> {
         };
         open.check_change(&standing, &change)?;
         let stored = open.change(&change);
-        self.current = Some(open);
         Ok(stored)
     }
 
@@ -66,7 +64,7 @@ impl<M: Market, R: Ranking, S: IntervalSource> Room<M, R, S> {
     {
         let withdrawal = request.checked()?;
         self.step_clock(withdrawal.time);
-        let Some(mut open) = self.current else {
+        let Some(open) = &mut self.current else {
             return Err(Refusal::NoAuctionOpen);
         };
         let Some(standing) = open
@@ -79,7 +77,6 @@ impl<M: Market, R: Ranking, S: IntervalSource> Room<M, R, S> {
             return Err(Refusal::ResponseIsPlain);
         }
         let stored = open.withdraw(&withdrawal, &standing);
-        self.current = Some(open);
         Ok(stored)
     }
 }

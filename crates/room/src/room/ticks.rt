@@ -18,16 +18,13 @@ impl<M: Market, R: Ranking, S: IntervalSource> Room<M, R, S> {
         ensures state { state_of M.Market.position S.IntervalSource.position self.new ≡ ticked (option_map open_values self.old.current) (M.Market.meaning.shows (M.Market.position self.old.market)) (state_of M.Market.position S.IntervalSource.position self.old) }
         ensures ranking { self.new.ranking ≡ self.old.ranking }
     {
-        let Some(mut open) = self.current else {
+        let Some(open) = &mut self.current else {
             return;
         };
         let shown = turned_quote(&self.market, open.auction.order().side);
         match open.tick_cause(&shown) {
             Some(cause) => self.end(cause),
-            None => {
-                open.take_floor(&shown);
-                self.current = Some(open);
-            }
+            None => open.take_floor(&shown),
         }
     }
 }
