@@ -27,12 +27,12 @@ use Rattle.room.specs.HandedIn.{response_given, change_given}
 use Rattle.room.specs.Storing.{MayRespond, MayChange}
 use Rattle.room.specs.Ticks.{above_stop, tick_cause}
 use Rattle.room.specs.Counts.{all_arrived}
-use Rattle.room.proofs.Counting.{next_is_free, arrived_next, arrived_push, arrived_changed}
-use Rattle.room.proofs.Sound.{stored_may_stand, ends_for_none}
-use Rattle.room.proofs.Tests.{both_true, left_true, right_true}
+use Rattle.room.proofs.Counting.{next_is_free, arrived_next}
+use Rattle.room.proofs.Sound.{stored_may_stand, each_push, each_rewritten, ends_for_none}
+use Rattle.room.proofs.Tests.{both_true, left_true, right_true, none_some}
 
 -- the terms of an auction, one by one
-pub terms_of : (a : Auction) → Terms (auction_values a).order (auction_values a).floor (auction_values a).initiating
+terms_of : (a : Auction) → Terms (auction_values a).order (auction_values a).floor (auction_values a).initiating
 terms_of a = terms_hold a.order a.floor a.initiating a.terms
 
 sized : (a : Auction) → leb 1 (auction_values a).order.size ≡ true
@@ -103,31 +103,33 @@ module _ (a b : CurrentAuction) (size arrival : ℕ) (price : ℤ) (after : Auct
 pub response_arrived : (a : CurrentAuction) (x : ResponseRequest) → all_arrived (a.arrivals + 1) (with_response (open_values a) x).values.stood ≡ true
 response_arrived a x =
     let last : leb (a.arrivals + 1) (a.arrivals + 1) ≡ true = grind (arith, nat_tests) in
-    arrived_push (a.arrivals + 1) (auction_values a.auction).stood (as_stored (open_values a) x) (arrived_next a.arrivals (auction_values a.auction).stood a.arrived) last
+    let xs = (auction_values a.auction).stood in
+    each_push (λ (y : Response). leb y.arrival (a.arrivals + 1)) xs (as_stored (open_values a) x) (arrived_next a.arrivals xs a.arrived) last
 
 pub change_arrived : (a : CurrentAuction) (x : ChangeRequest) → all_arrived (a.arrivals + 1) (with_change (open_values a) x).values.stood ≡ true
 change_arrived a x =
     let last : leb (a.arrivals + 1) (a.arrivals + 1) ≡ true = grind (arith, nat_tests) in
     let o = open_values a in
-    arrived_changed (a.arrivals + 1) x.member x.own (stored_size o x.size) (stored_price o x.price) (a.arrivals + 1) o.values.stood (arrived_next a.arrivals o.values.stood a.arrived) last
+    each_rewritten (λ (y : Response). leb y.arrival (a.arrivals + 1)) x.member x.own (stored_size o x.size) (stored_price o x.price) (a.arrivals + 1) o.values.stood (λ (y : Response) e. last) (arrived_next a.arrivals o.values.stood a.arrived)
+
+-- what holds of each response that stands holds of the one that is found
+found_at : (b : Bool) (t : Response → Bool) (x y : Response) (o : Option Response) → t x ≡ true → (o ≡ Some y → t y ≡ true) → cond b (Some x) o ≡ Some y → t y ≡ true
+found_at true t x y o h again e = let same : x ≡ y = cc in subst (λ (z : Response). t z ≡ true) same h
+found_at false t x y o h again e = again e
+
+found_has : (t : Response → Bool) (m o : ℕ) (xs : List Response) (y : Response) → each t xs ≡ true → own_response m o xs ≡ Some y → t y ≡ true
+found_has t m o [] y h e = none_some y e
+found_has t m o (x ∷ xs) y h e = found_at (is_of m o x) t x y (own_response m o xs) (left_true (t x) _ h) (found_has t m o xs y (right_true (t x) _ h)) e
 
 -- a standing response's price can be turned back
-shown_at : (b : Bool) (most : ℕ) (low high : ℤ) (x y : Response) (o : Option Response) → showable (Some low) ≡ true → showable (Some high) ≡ true → response_ok most low high x ≡ true
-    → (o ≡ Some y → showable (Some y.price) ≡ true) → cond b (Some x) o ≡ Some y → showable (Some y.price) ≡ true
-shown_at true most low high x y o f i h again e =
-    let same : x ≡ y = cc in
-    let r1 = right_true (from_to 1 16 x.member) _ h in
-    let r2 = right_true (from_to 1 4 x.own) _ r1 in
-    let r3 = right_true (from_to 1 most x.size) _ r2 in
-    subst (λ (z : Response). showable (Some z.price) ≡ true) same (between low x.price high f i (left_true (le_z low x.price) _ r3) (right_true (le_z low x.price) _ r3))
-shown_at false most low high x y o f i h again e = again e
-
-pub standing_shown : (m o most : ℕ) (low high : ℤ) (xs : List Response) (y : Response) → showable (Some low) ≡ true → showable (Some high) ≡ true → each (response_ok most low high) xs ≡ true
-    → own_response m o xs ≡ Some y → showable (Some y.price) ≡ true
-standing_shown m o most low high [] y f i h e = absurd (let z : ◌≡◌ {A = ℕ} 0 1 = cc in omega arith)
-standing_shown m o most low high (x ∷ xs) y f i h e =
-    shown_at (is_of m o x) most low high x y (own_response m o xs) f i (left_true (response_ok most low high x) _ h)
-    (standing_shown m o most low high xs y f i (right_true (response_ok most low high x) _ h)) e
+pub standing_shown : (a : Auction) (m o : ℕ) (y : Response) → own_response m o (auction_values a).stood ≡ Some y → showable (Some y.price) ≡ true
+standing_shown a m o y e =
+    let v = auction_values a in
+    let member = found_has (response_ok v.order.size v.floor v.initiating) m o v.stood y a.responses e in
+    let own = right_true (from_to 1 16 y.member) _ member in
+    let size = right_true (from_to 1 4 y.own) _ own in
+    let range = right_true (from_to 1 v.order.size y.size) _ size in
+    between v.floor y.price v.initiating (terms_of a).floor_shown (terms_of a).initiating_shown (left_true (le_z v.floor y.price) _ range) (right_true (le_z v.floor y.price) _ range)
 
 -- a floor that brings no end can be had
 stop_not_below : (k : GuaranteeKind) (f z : ℤ) → above_stop (Some f) k z ≡ false → stop_ok k f z ≡ true
