@@ -11,7 +11,7 @@ ghost use Rattle.room.specs.Storing.{MayRespond, MayChange};
 use super::CurrentAuction;
 use crate::answers::StoredTerms;
 use crate::handed_in::{CheckedChange, CheckedResponse, CheckedWithdrawal};
-use crate::limits::{Member, Price};
+use crate::limits::{Member, Price, Size};
 use allocation::response::Response;
 
 impl CurrentAuction {
@@ -23,10 +23,10 @@ impl CurrentAuction {
     }
 
     // A size, capped at the order's.
-    fn stored_size(&self, size: u32) -> u32
-        ensures { result ≡ stored_size (open_values self.now) size }
+    fn stored_size(&self, size: Size) -> u32
+        ensures { result ≡ stored_size (open_values self.now) size.contracts }
     {
-        size.min(self.auction.order().size)
+        size.contracts.min(self.auction.order().size)
     }
 
     // What is told of a stored price and size: the price is turned back.
@@ -60,7 +60,7 @@ impl CurrentAuction {
         ensures answer { result ≡ terms_told (open_values self.old) (stored_price (open_values self.old) response.now.price.cents) (stored_size (open_values self.old) response.now.size.contracts) }
     {
         let price = self.stored_price(response.price);
-        let size = self.stored_size(response.size.contracts);
+        let size = self.stored_size(response.size);
         let told = self.told(price, size);
         let arrival = self.count(response.member);
         let _ = self.auction.store(Response {
@@ -82,7 +82,7 @@ impl CurrentAuction {
         ensures answer { result ≡ terms_told (open_values self.old) (stored_price (open_values self.old) change.now.price.cents) (stored_size (open_values self.old) change.now.size.contracts) }
     {
         let price = self.stored_price(change.price);
-        let size = self.stored_size(change.size.contracts);
+        let size = self.stored_size(change.size);
         let told = self.told(price, size);
         let arrival = self.count(change.member);
         let _ = self.auction.change(

@@ -2,7 +2,7 @@
 ghost use Rattle.std.specs.Prelude.{◌≡◌, false, ◌++◌, length, drop};
 ghost use Rattle.std.specs.Option.{option_map};
 ghost use Rattle.room.specs.Collecting.{collectable, collect_call, collect_rows};
-ghost use Rattle.room.specs.Rooms.{claim_numbers, collected_answer, ended_values, has_number, listed, open_values, state_of, waiting_result, world_of};
+ghost use Rattle.room.specs.Rooms.{claim_numbers, collected_answer, ended_values, listed, open_values, state_of, waiting_result, world_of};
 ghost use Rattle.room.specs.State.{is_number, numbered, without_number};
 
 use super::Room;
@@ -14,12 +14,6 @@ use allocation::fill::{FillRow, LEAST_ROWS};
 use allocation::ranking::Ranking;
 use interval::source::IntervalSource;
 use market::market::Market;
-
-fn has_number(place: &Option<WaitingAuction>, number: u32) -> bool
-    ensures { result ≡ has_number number place.now }
-{
-    place.is_some_and(|ended| ended.number == number)
-}
 
 impl<M: Market, R: Ranking, S: IntervalSource> Room<M, R, S> {
     // The waiting auction of this number, if there is one.
@@ -58,9 +52,10 @@ impl<M: Market, R: Ranking, S: IntervalSource> Room<M, R, S> {
         ensures state { state_of M.Market.position S.IntervalSource.position self.new ≡ Rattle.room.specs.State.with_waiting (without_number number (listed self.old.first self.old.second)) (state_of M.Market.position S.IntervalSource.position self.old) }
         ensures ranking { self.new.ranking ≡ self.old.ranking }
     {
-        if has_number(&self.first, number) {
+        let has_it = |ended: WaitingAuction| ended.number == number;
+        if self.first.is_some_and(has_it) {
             self.first = self.second.take();
-        } else if has_number(&self.second, number) {
+        } else if self.second.is_some_and(has_it) {
             self.second = None;
         }
     }

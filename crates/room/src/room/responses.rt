@@ -45,12 +45,10 @@ impl<M: Market, R: Ranking, S: IntervalSource> Room<M, R, S> {
         let Some(open) = &mut self.current else {
             return Err(Refusal::NoAuctionOpen);
         };
-        let Some(standing) = open
+        let standing = open
             .auction
             .response_of(change.member.number, change.own.number)
-        else {
-            return Err(Refusal::NoSuchResponse);
-        };
+            .ok_or_else(|| Refusal::NoSuchResponse)?;
         open.check_change(&standing, &change)?;
         let stored = open.change(&change);
         Ok(stored)
@@ -67,12 +65,10 @@ impl<M: Market, R: Ranking, S: IntervalSource> Room<M, R, S> {
         let Some(open) = &mut self.current else {
             return Err(Refusal::NoAuctionOpen);
         };
-        let Some(standing) = open
+        let standing = open
             .auction
             .response_of(withdrawal.member.number, withdrawal.own.number)
-        else {
-            return Err(Refusal::NoSuchResponse);
-        };
+            .ok_or_else(|| Refusal::NoSuchResponse)?;
         if standing.kind == Kind::Plain {
             return Err(Refusal::ResponseIsPlain);
         }
