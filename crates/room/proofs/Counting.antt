@@ -1,11 +1,10 @@
 -- Counting accepted responses and changes: one more of a member adds one to the total, no member passes its 10,000, and a
 -- new arrival number is one that no standing response has.
-use Rattle.std.proofs.Common.{◌≡◌, ℕ, zero, suc, ◌+◌, ◌*◌, ◌<◌, ◌≤◌, Bool, true, false, cond, not, eqb, leb, List, [], ◌∷◌, ◌++◌, length, get_or, set, ℤ, refl, le_of_suc-le-suc, not-suc-le-zero, arith}
+use Rattle.std.proofs.Common.{◌≡◌, ℕ, zero, suc, ◌+◌, ◌*◌, ◌<◌, ◌≤◌, true, not, eqb, leb, List, [], ◌∷◌, length, get_or, set, refl, le_of_suc-le-suc, not-suc-le-zero, arith}
 use Rattle.std.proofs.lemmas.Bool.Decides.{nat_tests}
 use Rattle.allocation.specs.declared.response.Response.{Response}
 use Rattle.allocation.specs.AuctionInvariant.{arrival_free}
 use Rattle.allocation.specs.Shares.{total}
-use Rattle.allocation.specs.Table.{is_of, restored, own_changed, without_own}
 use Rattle.room.specs.Counts.{all_within, all_arrived}
 use Rattle.room.proofs.Tests.{both_true, left_true, right_true}
 

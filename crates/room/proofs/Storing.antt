@@ -13,7 +13,7 @@ use Rattle.allocation.specs.declared.order.GuaranteeKind.TheVariants.{SingleStop
 use Rattle.allocation.specs.declared.response.Response.{Response}
 use Rattle.allocation.specs.Auction.{AuctionValues, auction_values, with_stood, may_store, stored, changed, may_move_floor}
 use Rattle.allocation.specs.AuctionInvariant.{from_to, range_ok, guarantee_ok, stop_ok, terms_ok, stored_ok, response_ok, each}
-use Rattle.allocation.specs.Table.{is_of, own_response, own_changed, any_below}
+use Rattle.allocation.specs.Table.{is_of, own_response, any_below}
 use Rattle.room.specs.declared.auction.CurrentAuction.{CurrentAuction}
 use Rattle.room.specs.declared.requests.ChangeRequest.{ChangeRequest}
 use Rattle.room.specs.declared.requests.ResponseRequest.{ResponseRequest}

@@ -43,6 +43,7 @@ impl CurrentAuction {
 
 impl CurrentAuction {
     // Counts one more response or change of this member, and gives it its arrival number.
+    #[tactic(auto, using(crate::proofs::Counting::total_most))]
     fn count(&mut self, member: Member) -> u32
         requires { nat_le 10000 (used_by member.number self.old.used) ≡ false }
         ensures counted { open_values self.new ≡ with_counted (open_values self.old) member.number (open_values self.old).values.stood }

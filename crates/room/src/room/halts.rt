@@ -18,7 +18,8 @@ impl<M: Market, R: Ranking, S: IntervalSource> Room<M, R, S> {
         ensures answer { result ≡ (halt_call (state_of M.Market.position S.IntervalSource.position self.old) time).1 }
         ensures ranking { self.new.ranking ≡ self.old.ranking }
     {
-        self.step_clock(Time::checked(time)?);
+        let time = Time::checked(time)?;
+        self.step_clock(time);
         self.end(EndCause::Halt);
         self.halted = true;
         Ok(())
@@ -30,7 +31,8 @@ impl<M: Market, R: Ranking, S: IntervalSource> Room<M, R, S> {
         ensures answer { result ≡ (resume_call (state_of M.Market.position S.IntervalSource.position self.old) time).1 }
         ensures ranking { self.new.ranking ≡ self.old.ranking }
     {
-        self.step_clock(Time::checked(time)?);
+        let time = Time::checked(time)?;
+        self.step_clock(time);
         self.halted = false;
         Ok(())
     }
@@ -41,7 +43,8 @@ impl<M: Market, R: Ranking, S: IntervalSource> Room<M, R, S> {
         ensures answer { result ≡ (clock_call (state_of M.Market.position S.IntervalSource.position self.old) time).1 }
         ensures ranking { self.new.ranking ≡ self.old.ranking }
     {
-        self.step_clock(Time::checked(time)?);
+        let time = Time::checked(time)?;
+        self.step_clock(time);
         Ok(())
     }
 }

@@ -39,7 +39,8 @@ where
         ensures answer { result ≡ (tick_call (world_of M.Market.meaning S.IntervalSource.meaning (R.Ranking.ahead self.old.ranking)) (state_of M.Market.position S.IntervalSource.position self.old) time tick).1 }
         ensures ranking { self.new.ranking ≡ self.old.ranking }
     {
-        self.step_clock(Time::checked(time)?);
+        let time = Time::checked(time)?;
+        self.step_clock(time);
         self.market.tick(tick)?;
         self.take_notice();
         Ok(())

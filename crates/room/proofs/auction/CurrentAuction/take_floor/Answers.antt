@@ -20,12 +20,12 @@ moved a q f after fits is shown none e =
     let may = floor_moves a f q.contra can no_end in
     e ∙ ap (λ z. cond (may_move_floor v z) (with_floor v z) v) (to_z-of_z w64 f fits) ∙ ap (λ (b : Bool). cond b (with_floor v f) v) may
 
-pub invariant_of-self : goal.invariant_of-self
-invariant_of-self c =
+pub invariant_of-self-clause-arrived : goal.invariant_of-self-clause-arrived
+invariant_of-self-clause-arrived c =
     let a = c.args.self.now in
     let fits : SFits w64 c.in-Some.floor = search rules in
     let after = moved a.auction c.args.shown.now c.in-Some.floor (auction_values c.move_floor.new.self) fits c.in-Some.is c.requires.floor c.requires.kept c.move_floor.ensures.after in
-    record { members = a.members; few = a.few; counted = a.counted; arrived = ap (λ (v : AuctionValues). all_arrived a.arrivals v.stood) after ∙ a.arrived }
+    ap (λ (v : AuctionValues). all_arrived a.arrivals v.stood) after ∙ a.arrived
 
 pub returns-in-Some : goal.returns-in-Some
 returns-in-Some c =

@@ -17,18 +17,13 @@ told-told-requires c =
     let fits : SFits w64 y.price = search rules in
     ap (λ (z : ℤ). showable (Some z)) (to_z-of_z w64 y.price fits) ∙ standing_shown c.args.self.now.auction x.member.number x.own.number y c.requires
 
-pub invariant_of-self : goal.invariant_of-self
-invariant_of-self c =
+pub invariant_of-self-clause-arrived : goal.invariant_of-self-clause-arrived
+invariant_of-self-clause-arrived c =
     let a = c.args.self.now in
     let x = c.args.withdrawal.now in
     let v = auction_values a.auction in
-    let after = c.withdraw.ensures.after ∙ own_removed v x.member.number x.own.number in
-    record {
-      members = a.members;
-      few = a.few;
-      counted = a.counted;
-      arrived = ap (λ (u : AuctionValues). all_arrived a.arrivals u.stood) after ∙ each_without x.member.number x.own.number (λ (y : Response). leb y.arrival a.arrivals) v.stood a.arrived;
-    }
+    ap (λ (u : AuctionValues). all_arrived a.arrivals u.stood) (c.withdraw.ensures.after ∙ own_removed v x.member.number x.own.number)
+    ∙ each_without x.member.number x.own.number (λ (y : Response). leb y.arrival a.arrivals) v.stood a.arrived
 
 pub returns-clause-after : goal.returns-clause-after
 returns-clause-after c =

@@ -2,7 +2,7 @@ use Rattle.std.proofs.Common.{◌≡◌, Bool, cond, Some, None, sym, ap, ◌∙
 use Rattle.std.specs.Option.{option_map}
 use Rattle.std.proofs.lemmas.Int.{to_z-of_z}
 use Rattle.market.specs.Range.{range_prices}
-use Rattle.allocation.specs.Auction.{AuctionValues, auction_values, new_auction}
+use Rattle.allocation.specs.Auction.{auction_values, new_auction}
 use Rattle.room.specs.HandedIn.{order_given}
 use Rattle.room.specs.Openings.{stored_order, new_values}
 use Rattle.room.proofs.Opening.{new_terms}
