@@ -1,11 +1,10 @@
 -- Counting accepted responses and changes: one more of a member adds one to the total, no member passes its 10,000, and a
 -- new arrival number is one that no standing response has.
-use Rattle.std.proofs.Common.{◌≡◌, ℕ, zero, suc, ◌+◌, ◌*◌, ◌<◌, ◌≤◌, Bool, true, false, cond, not, eqb, leb, List, [], ◌∷◌, ◌++◌, length, get_or, set, ℤ, refl, le_of_suc-le-suc, not-suc-le-zero, arith}
+use Rattle.std.proofs.Common.{◌≡◌, ℕ, zero, suc, ◌+◌, ◌*◌, ◌<◌, ◌≤◌, true, not, eqb, leb, List, [], ◌∷◌, length, get_or, set, refl, le_of_suc-le-suc, not-suc-le-zero, arith}
 use Rattle.std.proofs.lemmas.Bool.Decides.{nat_tests}
 use Rattle.allocation.specs.declared.response.Response.{Response}
 use Rattle.allocation.specs.AuctionInvariant.{arrival_free}
 use Rattle.allocation.specs.Shares.{total}
-use Rattle.allocation.specs.Table.{is_of, restored, own_changed, without_own}
 use Rattle.room.specs.Counts.{all_within, all_arrived}
 use Rattle.room.proofs.Tests.{both_true, left_true, right_true}
 
@@ -35,35 +34,10 @@ next_is_free last (x ∷ xs) h =
     let apart : not (eqb (last + 1) x.arrival) ≡ true = grind (arith, nat_tests) in
     both_true (not (eqb (last + 1) x.arrival)) _ apart (next_is_free last xs (right_true (leb x.arrival last) (all_arrived last xs) h))
 
--- all have arrived by the next arrival, those that stand and a new one
+-- all have arrived by the next arrival
 pub arrived_next : (last : ℕ) (xs : List Response) → all_arrived last xs ≡ true → all_arrived (last + 1) xs ≡ true
 arrived_next last [] h = refl
 arrived_next last (x ∷ xs) h =
     let here : leb x.arrival last ≡ true = left_true (leb x.arrival last) (all_arrived last xs) h in
     let later : leb x.arrival (last + 1) ≡ true = grind (arith, nat_tests) in
     both_true (leb x.arrival (last + 1)) _ later (arrived_next last xs (right_true (leb x.arrival last) (all_arrived last xs) h))
-
-pub arrived_push : (last : ℕ) (xs : List Response) (x : Response) → all_arrived last xs ≡ true → leb x.arrival last ≡ true → all_arrived last (xs ++ x ∷ []) ≡ true
-arrived_push last [] x h k = both_true (leb x.arrival last) true k refl
-arrived_push last (y ∷ ys) x h k = both_true (leb y.arrival last) _ (left_true (leb y.arrival last) (all_arrived last ys) h) (arrived_push last ys x (right_true (leb y.arrival last) (all_arrived last ys) h) k)
-
-changed_at : (b : Bool) (last : ℕ) (x y : Response) (xs ys : List Response) → leb x.arrival last ≡ true → leb y.arrival last ≡ true → all_arrived last xs ≡ true → all_arrived last ys ≡ true → all_arrived last (cond b (y ∷ xs) (x ∷ ys)) ≡ true
-changed_at true last x y xs ys a c d e = both_true (leb y.arrival last) _ c d
-changed_at false last x y xs ys a c d e = both_true (leb x.arrival last) _ a e
-
-pub arrived_changed : (last m o size : ℕ) (z : ℤ) (n : ℕ) (xs : List Response) → all_arrived last xs ≡ true → leb n last ≡ true → all_arrived last (own_changed m o size z n xs) ≡ true
-arrived_changed last m o size z n [] h k = refl
-arrived_changed last m o size z n (x ∷ xs) h k =
-    let here = left_true (leb x.arrival last) (all_arrived last xs) h in
-    let rest = right_true (leb x.arrival last) (all_arrived last xs) h in
-    changed_at (is_of m o x) last x (restored size z n x) xs (own_changed m o size z n xs) here k rest (arrived_changed last m o size z n xs rest k)
-
-removed_at : (b : Bool) (last : ℕ) (x : Response) (xs ys : List Response) → leb x.arrival last ≡ true → all_arrived last xs ≡ true → all_arrived last ys ≡ true → all_arrived last (cond b xs (x ∷ ys)) ≡ true
-removed_at true last x xs ys a c d = c
-removed_at false last x xs ys a c d = both_true (leb x.arrival last) _ a d
-
-pub arrived_without : (last m o : ℕ) (xs : List Response) → all_arrived last xs ≡ true → all_arrived last (without_own m o xs) ≡ true
-arrived_without last m o [] h = refl
-arrived_without last m o (x ∷ xs) h =
-    let rest = right_true (leb x.arrival last) (all_arrived last xs) h in
-    removed_at (is_of m o x) last x xs (without_own m o xs) (left_true (leb x.arrival last) (all_arrived last xs) h) rest (arrived_without last m o xs rest)

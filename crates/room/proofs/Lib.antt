@@ -5,7 +5,5 @@ pub mod Checked
 pub mod Sound
 mod Counting
 mod Storing
-mod Passing
 mod Opening
 mod Listed
-mod Collects

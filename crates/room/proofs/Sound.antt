@@ -90,13 +90,16 @@ changed_at : (b : Bool) (t : Response → Bool) (x y : Response) (xs ys : List R
 changed_at true t x y xs ys a c d e = both_true (t y) (each t xs) c d
 changed_at false t x y xs ys a c d e = both_true (t x) (each t ys) a e
 
-pub each_changed : (m o most : ℕ) (floor initiating : ℤ) (size : ℕ) (z : ℤ) (n : ℕ) (xs : List Response) → stored_ok most floor initiating size z ≡ true → each (response_ok most floor initiating) xs ≡ true → each (response_ok most floor initiating) (own_changed m o size z n xs) ≡ true
-each_changed m o most floor initiating size z n [] k h = refl
-each_changed m o most floor initiating size z n (x ∷ xs) k h =
-    let t : Response → Bool = response_ok most floor initiating in
+-- what holds of each response holds of each after one was changed, if it holds of that one
+pub each_rewritten : (t : Response → Bool) (m o size : ℕ) (z : ℤ) (n : ℕ) (xs : List Response) → ((x : Response) → t x ≡ true → t (restored size z n x) ≡ true) → each t xs ≡ true → each t (own_changed m o size z n xs) ≡ true
+each_rewritten t m o size z n [] k h = refl
+each_rewritten t m o size z n (x ∷ xs) k h =
     let here = left_true (t x) (each t xs) h in
     let rest = right_true (t x) (each t xs) h in
-    changed_at (is_of m o x) t x (restored size z n x) xs (own_changed m o size z n xs) here (restored_ok most floor initiating size z n x k here) rest (each_changed m o most floor initiating size z n xs k rest)
+    changed_at (is_of m o x) t x (restored size z n x) xs (own_changed m o size z n xs) here (k x here) rest (each_rewritten t m o size z n xs k rest)
+
+pub each_changed : (m o most : ℕ) (floor initiating : ℤ) (size : ℕ) (z : ℤ) (n : ℕ) (xs : List Response) → stored_ok most floor initiating size z ≡ true → each (response_ok most floor initiating) xs ≡ true → each (response_ok most floor initiating) (own_changed m o size z n xs) ≡ true
+each_changed m o most floor initiating size z n xs k h = each_rewritten (response_ok most floor initiating) m o size z n xs (λ (x : Response). restored_ok most floor initiating size z n x k) h
 
 removed_at : (b : Bool) (t : Response → Bool) (x : Response) (xs ys : List Response) → t x ≡ true → each t xs ≡ true → each t ys ≡ true → each t (cond b xs (x ∷ ys)) ≡ true
 removed_at true t x xs ys a c d = c

@@ -1,6 +1,6 @@
 -- A request that has passed its checks can be carried out: the auction stores the response, changes it, and can be told of
 -- it; and a floor that brings no end can be had.
-use Rattle.std.proofs.Common.{◌≡◌, ℕ, ◌+◌, Bool, true, false, cond, not, ◌&&◌, leb, List, [], ◌∷◌, ◌++◌, ℤ, Some, None, Option, refl, ap, subst, arith}
+use Rattle.std.proofs.Common.{◌≡◌, ℕ, ◌+◌, Bool, true, false, cond, not, ◌&&◌, leb, List, [], ◌∷◌, ◌++◌, ℤ, Some, None, Option, refl, ap, ◌∙◌, subst, arith}
 use borrow.Author.Differences.{ints}
 use lib.Signed.{le_z, lt_z}
 use Rattle.std.proofs.lemmas.Bool.Decides.{nat_tests}
@@ -13,21 +13,26 @@ use Rattle.allocation.specs.declared.order.GuaranteeKind.TheVariants.{SingleStop
 use Rattle.allocation.specs.declared.response.Response.{Response}
 use Rattle.allocation.specs.Auction.{AuctionValues, auction_values, with_stood, may_store, stored, changed, may_move_floor}
 use Rattle.allocation.specs.AuctionInvariant.{from_to, range_ok, guarantee_ok, stop_ok, terms_ok, stored_ok, response_ok, each}
-use Rattle.allocation.specs.Table.{is_of, own_response, own_changed, any_below}
+use Rattle.allocation.specs.Table.{is_of, own_response, any_below}
 use Rattle.room.specs.declared.auction.CurrentAuction.{CurrentAuction}
 use Rattle.room.specs.declared.requests.ChangeRequest.{ChangeRequest}
 use Rattle.room.specs.declared.requests.ResponseRequest.{ResponseRequest}
-use Rattle.room.specs.Responses.{turned_in, stored_price, stored_size, as_stored}
+use Rattle.room.specs.Responses.{turned_in, stored_price, stored_size, as_stored, with_counted, with_response, with_change}
 use Rattle.room.specs.Rooms.{open_values}
 use Rattle.room.specs.State.{OpenAuction}
-use Rattle.room.specs.Storing.{MayStore, MayRespond, MayChange}
+use Rattle.room.specs.declared.handed_in.CheckedChange.{CheckedChange}
+use Rattle.room.specs.declared.handed_in.CheckedResponse.{CheckedResponse}
+use Rattle.room.specs.declared.limits.Size.{Size}
+use Rattle.room.specs.HandedIn.{response_given, change_given}
+use Rattle.room.specs.Storing.{MayRespond, MayChange}
 use Rattle.room.specs.Ticks.{above_stop, tick_cause}
-use Rattle.room.proofs.Counting.{next_is_free}
-use Rattle.room.proofs.Sound.{stored_may_stand, ends_for_none}
-use Rattle.room.proofs.Tests.{both_true, left_true, right_true}
+use Rattle.room.specs.Counts.{all_arrived}
+use Rattle.room.proofs.Counting.{next_is_free, arrived_next}
+use Rattle.room.proofs.Sound.{stored_may_stand, each_push, each_rewritten, ends_for_none}
+use Rattle.room.proofs.Tests.{both_true, left_true, right_true, none_some}
 
 -- the terms of an auction, one by one
-pub terms_of : (a : Auction) → Terms (auction_values a).order (auction_values a).floor (auction_values a).initiating
+terms_of : (a : Auction) → Terms (auction_values a).order (auction_values a).floor (auction_values a).initiating
 terms_of a = terms_hold a.order a.floor a.initiating a.terms
 
 sized : (a : Auction) → leb 1 (auction_values a).order.size ≡ true
@@ -36,58 +41,95 @@ sized a = left_true (leb 1 a.order.size) (leb a.order.size 100000) (left_true (f
 between : (low z high : ℤ) → showable (Some low) ≡ true → showable (Some high) ≡ true → le_z low z ≡ true → le_z z high ≡ true → showable (Some z) ≡ true
 between low z high a b c d = grind (arith, ints, nat_tests)
 
-module _ (a : CurrentAuction) (member size : ℕ) (price : ℤ) (ok : MayStore (open_values a) member size price) where
-  -- a size and a price as they are stored may stand
-  pub may_stand : stored_ok (auction_values a.auction).order.size (auction_values a.auction).floor (auction_values a.auction).initiating (stored_size (open_values a) size) (stored_price (open_values a) price) ≡ true
-  may_stand =
-      stored_may_stand (auction_values a.auction).order.size (auction_values a.auction).floor (auction_values a.auction).initiating size (turned_in (open_values a) price)
-      (sized a.auction) (terms_of a.auction).in_order ok.sized ok.not_above
-
-  -- and the price can be turned back
-  pub stored_shown : showable (Some (stored_price (open_values a) price)) ≡ true
-  stored_shown =
-      let v = auction_values a.auction in
-      let ends = right_true (from_to 1 v.order.size (stored_size (open_values a) size)) _ may_stand in
-      between v.floor (stored_price (open_values a) price) v.initiating (terms_of a.auction).floor_shown (terms_of a.auction).initiating_shown
-      (left_true (le_z v.floor (stored_price (open_values a) price)) _ ends) (right_true (le_z v.floor (stored_price (open_values a) price)) _ ends)
+-- a size and a price as they are stored may stand
+may_stand : (a : CurrentAuction) (size : Size) (price : ℤ) → lt_z (auction_values a.auction).initiating (turned_in (open_values a) price) ≡ false
+    → stored_ok (auction_values a.auction).order.size (auction_values a.auction).floor (auction_values a.auction).initiating (stored_size (open_values a) size.contracts) (stored_price (open_values a) price) ≡ true
+may_stand a size price not_above =
+    let v = auction_values a.auction in
+    stored_may_stand v.order.size v.floor v.initiating size.contracts (turned_in (open_values a) price)
+    (sized a.auction) (terms_of a.auction).in_order (left_true (leb 1 size.contracts) _ size.in_limits) not_above
 
 -- a response is stored
-pub stores : (a : CurrentAuction) (x : ResponseRequest) → MayRespond (open_values a) x
-    → stored (auction_values a.auction) (as_stored (open_values a) x) ≡ with_stood (auction_values a.auction) ((auction_values a.auction).stood ++ as_stored (open_values a) x ∷ [])
+stores : (a : CurrentAuction) (x : CheckedResponse) → MayRespond (open_values a) (response_given x)
+    → stored (auction_values a.auction) (as_stored (open_values a) (response_given x)) ≡ with_stood (auction_values a.auction) ((auction_values a.auction).stood ++ as_stored (open_values a) (response_given x) ∷ [])
 stores a x ok =
     let v = auction_values a.auction in
-    let stands : response_ok v.order.size v.floor v.initiating (as_stored (open_values a) x) ≡ true =
-    both_true (from_to 1 16 x.member) _ ok.terms.a_member (both_true (from_to 1 4 x.own) _ ok.a_number (may_stand a x.member x.size x.price ok.terms)) in
-    let free = next_is_free a.arrivals v.stood a.arrived in
-    let may : may_store v (as_stored (open_values a) x) ≡ true = own_stored a.auction (as_stored (open_values a) x) stands free ok.not_in_use in
-    ap (λ (b : Bool). cond b (with_stood v (v.stood ++ as_stored (open_values a) x ∷ [])) v) may
+    let y = as_stored (open_values a) (response_given x) in
+    let stands : response_ok v.order.size v.floor v.initiating y ≡ true =
+    both_true (from_to 1 16 y.member) _ x.member.in_limits (both_true (from_to 1 4 y.own) _ x.own.in_limits (may_stand a x.size x.price.cents ok.terms.not_above)) in
+    let may : may_store v y ≡ true = own_stored a.auction y stands (next_is_free a.arrivals v.stood a.arrived) ok.not_in_use in
+    ap (λ (b : Bool). cond b (with_stood v (v.stood ++ y ∷ [])) v) may
 
 -- a change is made
-pub changes : (a : CurrentAuction) (x : ChangeRequest) → MayChange (open_values a) x
-    → changed (auction_values a.auction) x.member x.own (stored_size (open_values a) x.size) (stored_price (open_values a) x.price) (a.arrivals + 1)
-    ≡ with_stood (auction_values a.auction) (own_changed x.member x.own (stored_size (open_values a) x.size) (stored_price (open_values a) x.price) (a.arrivals + 1) (auction_values a.auction).stood)
+changes : (a : CurrentAuction) (x : CheckedChange) → MayChange (open_values a) (change_given x)
+    → changed (auction_values a.auction) x.member.number x.own.number (stored_size (open_values a) x.size.contracts) (stored_price (open_values a) x.price.cents) (a.arrivals + 1) ≡ (with_change (open_values a) (change_given x)).values
 changes a x ok =
     let v = auction_values a.auction in
-    let free = next_is_free a.arrivals v.stood a.arrived in
-    own_rewritten v x.member x.own (stored_size (open_values a) x.size) (stored_price (open_values a) x.price) (a.arrivals + 1) ok.stands (may_stand a x.member x.size x.price ok.terms) free
+    own_rewritten v x.member.number x.own.number (stored_size (open_values a) x.size.contracts) (stored_price (open_values a) x.price.cents) (a.arrivals + 1)
+    ok.stands (may_stand a x.size x.price.cents ok.terms.not_above) (next_is_free a.arrivals v.stood a.arrived)
+
+-- The open auction with other values.
+abbrev pub with_values : OpenAuction → AuctionValues → OpenAuction
+with_values a v = record { number = a.number; deadline = a.deadline; values = v; arrivals = a.arrivals; used = a.used }
+
+stored_same : (v v' : AuctionValues) (x : ResponseRequest) (n n' : ℕ) (z z' : ℤ) (k k' : ℕ) → v ≡ v' → n ≡ n' → z ≡ z' → k ≡ k'
+    → stored v (record { member = x.member; own = x.own; kind = x.kind; class = x.class; size = n; price = z; arrival = k }) ≡ stored v' (record { member = x.member; own = x.own; kind = x.kind; class = x.class; size = n'; price = z'; arrival = k' })
+stored_same v v' x n n' z z' k k' a b c d i = stored (a i) (record { member = x.member; own = x.own; kind = x.kind; class = x.class; size = b i; price = c i; arrival = d i })
+
+changed_same : (v v' : AuctionValues) (m o n n' : ℕ) (z z' : ℤ) (k k' : ℕ) → v ≡ v' → n ≡ n' → z ≡ z' → k ≡ k' → changed v m o n z k ≡ changed v' m o n' z' k'
+changed_same v v' m o n n' z z' k k' a b c d i = changed (a i) m o (b i) (c i) (d i)
+
+-- what was counted is stored, or changed
+module _ (a b : CurrentAuction) (size arrival : ℕ) (price : ℤ) (after : AuctionValues) where
+  pub counted_stores : (x : CheckedResponse) → MayRespond (open_values a) (response_given x) → open_values b ≡ with_counted (open_values a) x.member.number (auction_values a.auction).stood
+      → size ≡ stored_size (open_values a) x.size.contracts → price ≡ stored_price (open_values a) x.price.cents → arrival ≡ a.arrivals + 1
+      → after ≡ stored (auction_values b.auction) (record { member = x.member.number; own = x.own.number; kind = x.kind; class = x.class; size = size; price = price; arrival = arrival })
+      → with_values (open_values b) after ≡ with_response (open_values a) (response_given x)
+  counted_stores x ok count e f k is =
+      ap (with_values (open_values b))
+      (is ∙ stored_same _ _ (response_given x) size _ price _ arrival _ (ap (λ (o : OpenAuction). o.values) count) e f k ∙ stores a x ok)
+      ∙ ap (λ (o : OpenAuction). with_values o (with_response (open_values a) (response_given x)).values) count
+
+  pub counted_changes : (x : CheckedChange) → MayChange (open_values a) (change_given x) → open_values b ≡ with_counted (open_values a) x.member.number (auction_values a.auction).stood
+      → size ≡ stored_size (open_values a) x.size.contracts → price ≡ stored_price (open_values a) x.price.cents → arrival ≡ a.arrivals + 1
+      → after ≡ changed (auction_values b.auction) x.member.number x.own.number size price arrival
+      → with_values (open_values b) after ≡ with_change (open_values a) (change_given x)
+  counted_changes x ok count e f k is =
+      ap (with_values (open_values b))
+      (is ∙ changed_same _ _ x.member.number x.own.number size _ price _ arrival _ (ap (λ (o : OpenAuction). o.values) count) e f k ∙ changes a x ok)
+      ∙ ap (λ (o : OpenAuction). with_values o (with_change (open_values a) (change_given x)).values) count
+
+-- and all that then stand have arrived
+pub response_arrived : (a : CurrentAuction) (x : ResponseRequest) → all_arrived (a.arrivals + 1) (with_response (open_values a) x).values.stood ≡ true
+response_arrived a x =
+    let last : leb (a.arrivals + 1) (a.arrivals + 1) ≡ true = grind (arith, nat_tests) in
+    let xs = (auction_values a.auction).stood in
+    each_push (λ (y : Response). leb y.arrival (a.arrivals + 1)) xs (as_stored (open_values a) x) (arrived_next a.arrivals xs a.arrived) last
+
+pub change_arrived : (a : CurrentAuction) (x : ChangeRequest) → all_arrived (a.arrivals + 1) (with_change (open_values a) x).values.stood ≡ true
+change_arrived a x =
+    let last : leb (a.arrivals + 1) (a.arrivals + 1) ≡ true = grind (arith, nat_tests) in
+    let o = open_values a in
+    each_rewritten (λ (y : Response). leb y.arrival (a.arrivals + 1)) x.member x.own (stored_size o x.size) (stored_price o x.price) (a.arrivals + 1) o.values.stood (λ (y : Response) e. last) (arrived_next a.arrivals o.values.stood a.arrived)
+
+-- what holds of each response that stands holds of the one that is found
+found_at : (b : Bool) (t : Response → Bool) (x y : Response) (o : Option Response) → t x ≡ true → (o ≡ Some y → t y ≡ true) → cond b (Some x) o ≡ Some y → t y ≡ true
+found_at true t x y o h again e = let same : x ≡ y = cc in subst (λ (z : Response). t z ≡ true) same h
+found_at false t x y o h again e = again e
+
+found_has : (t : Response → Bool) (m o : ℕ) (xs : List Response) (y : Response) → each t xs ≡ true → own_response m o xs ≡ Some y → t y ≡ true
+found_has t m o [] y h e = none_some y e
+found_has t m o (x ∷ xs) y h e = found_at (is_of m o x) t x y (own_response m o xs) (left_true (t x) _ h) (found_has t m o xs y (right_true (t x) _ h)) e
 
 -- a standing response's price can be turned back
-shown_at : (b : Bool) (most : ℕ) (low high : ℤ) (x y : Response) (o : Option Response) → showable (Some low) ≡ true → showable (Some high) ≡ true → response_ok most low high x ≡ true
-    → (o ≡ Some y → showable (Some y.price) ≡ true) → cond b (Some x) o ≡ Some y → showable (Some y.price) ≡ true
-shown_at true most low high x y o f i h again e =
-    let same : x ≡ y = cc in
-    let r1 = right_true (from_to 1 16 x.member) _ h in
-    let r2 = right_true (from_to 1 4 x.own) _ r1 in
-    let r3 = right_true (from_to 1 most x.size) _ r2 in
-    subst (λ (z : Response). showable (Some z.price) ≡ true) same (between low x.price high f i (left_true (le_z low x.price) _ r3) (right_true (le_z low x.price) _ r3))
-shown_at false most low high x y o f i h again e = again e
-
-pub standing_shown : (m o most : ℕ) (low high : ℤ) (xs : List Response) (y : Response) → showable (Some low) ≡ true → showable (Some high) ≡ true → each (response_ok most low high) xs ≡ true
-    → own_response m o xs ≡ Some y → showable (Some y.price) ≡ true
-standing_shown m o most low high [] y f i h e = absurd (let z : ◌≡◌ {A = ℕ} 0 1 = cc in omega arith)
-standing_shown m o most low high (x ∷ xs) y f i h e =
-    shown_at (is_of m o x) most low high x y (own_response m o xs) f i (left_true (response_ok most low high x) _ h)
-    (standing_shown m o most low high xs y f i (right_true (response_ok most low high x) _ h)) e
+pub standing_shown : (a : Auction) (m o : ℕ) (y : Response) → own_response m o (auction_values a).stood ≡ Some y → showable (Some y.price) ≡ true
+standing_shown a m o y e =
+    let v = auction_values a in
+    let member = found_has (response_ok v.order.size v.floor v.initiating) m o v.stood y a.responses e in
+    let own = right_true (from_to 1 16 y.member) _ member in
+    let size = right_true (from_to 1 4 y.own) _ own in
+    let range = right_true (from_to 1 v.order.size y.size) _ size in
+    between v.floor y.price v.initiating (terms_of a).floor_shown (terms_of a).initiating_shown (left_true (le_z v.floor y.price) _ range) (right_true (le_z v.floor y.price) _ range)
 
 -- a floor that brings no end can be had
 stop_not_below : (k : GuaranteeKind) (f z : ℤ) → above_stop (Some f) k z ≡ false → stop_ok k f z ≡ true
@@ -107,8 +149,3 @@ floor_moves a f contra shown none =
     (both_true (range_ok f v.initiating) _ (both_true (showable (Some f)) _ shown (both_true (showable (Some v.initiating)) _ (terms_of a).initiating_shown ordered))
     (both_true (le_z v.order.guarantee.price v.initiating) _ (terms_of a).guaranteed_at (stop_not_below v.order.guarantee.kind f v.order.guarantee.price third.0))))
     (ap not second.0)
-
--- an open auction, part by part
-pub together : (n n' d d' : ℕ) (v v' : AuctionValues) (k k' : ℕ) (u u' : List ℕ) → n ≡ n' → d ≡ d' → v ≡ v' → k ≡ k' → u ≡ u'
-    → ◌≡◌ {A = OpenAuction} (record { number = n; deadline = d; values = v; arrivals = k; used = u }) (record { number = n'; deadline = d'; values = v'; arrivals = k'; used = u' })
-together n n' d d' v v' k k' u u' a b c e f i = record { number = a i; deadline = b i; values = c i; arrivals = e i; used = f i }

@@ -1,48 +1,38 @@
 -- Small facts on tests and refusals: what follows from a test that did not refuse.
-use Rattle.std.proofs.Common.{◌≡◌, ℕ, Bool, true, false, cond, not, ◌&&◌, ◌||◌, Some, None, Ok, Err, Option, Result, sym, refl, arith}
+use Rattle.std.proofs.Common.{◌≡◌, ℕ, Bool, true, false, cond, ◌&&◌, ◌||◌, Some, None, Ok, Err, Option, Result, sym, refl}
+use Rattle.std.proofs.lemmas.Bool.{true≢false, and_from, and_parts, and_left, and_right, or_parts}
 use Rattle.room.specs.declared.refusal.Refusal.{Refusal}
 use Rattle.room.specs.Refusals.{refuse, unless, and_then}
 
 pub true_false : {X : Type 0} → true ≡ false → X
-true_false h = absurd (let z : ◌≡◌ {A = ℕ} 0 1 = cc in omega arith)
+true_false h = absurd (true≢false h)
 
 pub none_some : {X Y : Type 0} (x : X) → None ≡ Some x → Y
-none_some x h = absurd (let z : ◌≡◌ {A = ℕ} 0 1 = cc in omega arith)
+none_some x h = cc
 
 pub ok_err : {X Y R : Type 0} (x : X) (e : R) → Ok x ≡ Err e → Y
-ok_err x e h = absurd (let z : ◌≡◌ {A = ℕ} 0 1 = cc in omega arith)
-
-pub not_true : (b : Bool) → not b ≡ false → b ≡ true
-not_true true h = refl
-not_true false h = true_false h
+ok_err x e h = cc
 
 pub both_true : (a b : Bool) → a ≡ true → b ≡ true → (a && b) ≡ true
-both_true true b h k = k
-both_true false b h k = h
+both_true = and_from
 
 pub left_true : (a b : Bool) → (a && b) ≡ true → a ≡ true
-left_true true b h = refl
-left_true false b h = h
+left_true a b h = (and_parts a b h).0
 
 pub right_true : (a b : Bool) → (a && b) ≡ true → b ≡ true
-right_true true b h = h
-right_true false b h = true_false (sym h)
+right_true a b h = (and_parts a b h).1
 
 pub and_false_left : (a b : Bool) → a ≡ false → (a && b) ≡ false
-and_false_left true b h = true_false h
-and_false_left false b h = refl
+and_false_left = and_left
 
 pub and_false_right : (a b : Bool) → b ≡ false → (a && b) ≡ false
-and_false_right true b h = h
-and_false_right false b h = refl
+and_false_right = and_right
 
 pub or_false_left : (a b : Bool) → (a || b) ≡ false → a ≡ false
-or_false_left true b h = h
-or_false_left false b h = refl
+or_false_left a b h = (or_parts a b h).0
 
 pub or_false_right : (a b : Bool) → (a || b) ≡ false → b ≡ false
-or_false_right true b h = true_false h
-or_false_right false b h = h
+or_false_right a b h = (or_parts a b h).1
 
 -- a test that refuses nothing fails, and so do those behind it
 pub refuse_none : {F : Type 0} (b : Bool) (n : ℕ) (further : Option (Refusal F)) → refuse b n further ≡ None → (b ≡ false) × (further ≡ None)

@@ -1,5 +1,5 @@
 -- The state of a room in code, as the model has it.
-use Rattle.std.specs.Prelude.{ℕ, Bool, false, List, [], ◌∷◌, Some, None, Ok, Err, Option, Result, ◌==◌}
+use Rattle.std.specs.Prelude.{Bool, List, [], ◌∷◌, Some, None, Ok, Err, Option, Result}
 use Rattle.std.specs.Option.{option_map}
 use Rattle.market.specs.declared.range.PermittedRange.{PermittedRange}
 use Rattle.market.specs.Meaning.{Meaning}
@@ -18,7 +18,7 @@ use Rattle.room.specs.State.{OpenAuction, EndedAuction, RoomState}
 use Rattle.room.specs.World.{World}
 
 abbrev pub claim_numbers : Claim → ClaimNumbers
-claim_numbers c = record { room = c.room; auction = c.auction }
+claim_numbers c = c.numbers
 
 abbrev pub open_values : CurrentAuction → OpenAuction
 open_values a = record { number = a.number; deadline = a.deadline; values = auction_values a.auction; arrivals = a.arrivals; used = a.used }
@@ -32,11 +32,6 @@ listed None None = []
 listed None (Some b) = ended_values b ∷ []
 listed (Some a) None = ended_values a ∷ []
 listed (Some a) (Some b) = ended_values a ∷ (ended_values b ∷ [])
-
--- The auction in this place has this number.
-abbrev pub has_number : ℕ → Option WaitingAuction → Bool
-has_number n None = false
-has_number n (Some e) = e.number == n
 
 module _ {F : Type 0} where
   -- The numbers of the claim that an opening was answered, or the refusal.

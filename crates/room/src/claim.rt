@@ -6,8 +6,7 @@ ghost use Rattle.room.specs.Rooms.{claim_numbers};
 use crate::answers::ClaimNumbers;
 
 pub struct Claim {
-    pub(crate) room: u32,
-    pub(crate) auction: u32,
+    pub(crate) numbers: ClaimNumbers,
 }
 
 impl Claim {
@@ -15,9 +14,6 @@ impl Claim {
     pub fn numbers(&self) -> ClaimNumbers
         ensures { result ≡ claim_numbers self.now }
     {
-        ClaimNumbers {
-            room: self.room,
-            auction: self.auction,
-        }
+        self.numbers
     }
 }

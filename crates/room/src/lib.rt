@@ -3,8 +3,9 @@
 
 pub mod answers;
 mod auction;
-mod checks;
 pub mod claim;
+mod handed_in;
+mod limits;
 pub mod refusal;
 pub mod requests;
 pub mod room;

@@ -39,6 +39,7 @@ impl<F> From<F> for Refusal<F> {
 }
 
 impl<F> Refusal<F> {
+    // A match, since an enum with a variant that holds data has no numbers of its own.
     pub fn number(&self) -> u8
         ensures { result ≡ refusal_number self.now }
     {

@@ -1,118 +1,86 @@
 // What the open auction does with responses, changes and withdrawals that have passed their checks.
-ghost use Rattle.std.specs.Prelude.{◌≡◌, true, int_lt};
-ghost use Rattle.allocation.specs.AuctionInvariant.{from_to};
-ghost use Rattle.room.specs.Checks.{price_ok};
-ghost use Rattle.room.specs.Responses.{same_side, is_plain, turned_in, response_refusal, change_refusal, plain_below_floor};
+ghost use Rattle.std.specs.Prelude.{◌≡◌, int_lt};
+ghost use Rattle.std.specs.Result.{result_err};
+ghost use Rattle.room.specs.HandedIn.{response_given, change_given};
+ghost use Rattle.room.specs.Responses.{turned_in, response_refusal, change_refusal, plain_below_floor};
 ghost use Rattle.room.specs.Rooms.{open_values};
 ghost use Rattle.room.specs.State.{used_by};
 
 use super::CurrentAuction;
+use crate::handed_in::{CheckedChange, CheckedResponse};
+use crate::limits::{Member, Price};
 use crate::refusal::Refusal;
-use crate::requests::{ChangeRequest, ResponseRequest};
-use allocation::response::{Kind, Response, ResponseId};
-use market::side::Side;
+use allocation::response::{Kind, Response};
 
 // A member's 10,000 accepted responses and changes in an auction.
 const MOST_USED: u32 = 10_000;
 
-fn is_same_side(one: Side, other: Side) -> bool
-    ensures { result ≡ same_side one other }
-{
-    match one {
-        Side::Buy => match other {
-            Side::Buy => true,
-            Side::Sell => false,
-        },
-        Side::Sell => match other {
-            Side::Buy => false,
-            Side::Sell => true,
-        },
-    }
-}
-
-pub(crate) fn is_plain(kind: Kind) -> bool
-    ensures { result ≡ is_plain kind }
-{
-    match kind {
-        Kind::Sealed => false,
-        Kind::Plain => true,
-    }
-}
-
 impl CurrentAuction {
     // A price that was handed in, turned as the order's side asks.
-    pub(crate) fn turned(&self, price: i64) -> i64
-        requires { price_ok price ≡ true }
-        ensures { result ≡ turned_in (open_values self.now) price }
+    pub(crate) fn turned(&self, price: Price) -> i64
+        ensures { result ≡ turned_in (open_values self.now) price.cents }
     {
-        self.auction.order().side.turn(price)
+        price.turned(self.auction.order().side)
     }
 
-    fn used_by(&self, member: u8) -> u32
-        requires { from_to 1 16 member ≡ true }
-        ensures { result ≡ used_by member self.now.used }
+    fn used_by(&self, member: Member) -> u32
+        ensures { result ≡ used_by member.number self.now.used }
     {
-        self.used[usize::from(member - 1)]
+        self.used[member.place()]
     }
 
-    fn is_above(&self, price: i64) -> bool
-        requires { price_ok price ≡ true }
-        ensures { result ≡ int_lt (open_values self.now).values.initiating (turned_in (open_values self.now) price) }
+    fn is_above(&self, price: Price) -> bool
+        ensures { result ≡ int_lt (open_values self.now).values.initiating (turned_in (open_values self.now) price.cents) }
     {
         self.auction.initiating() < self.turned(price)
     }
 
     // The first refusal that a response earns by the state: 22, 23, 24, 27.
-    pub(crate) fn response_refusal<F>(&self, request: &ResponseRequest) -> Option<Refusal<F>>
-        requires price { price_ok request.now.price ≡ true }
-        requires member { from_to 1 16 request.now.member ≡ true }
-        ensures { result ≡ response_refusal (open_values self.now) request.now }
+    pub(crate) fn check_response<F>(&self, response: &CheckedResponse) -> Result<(), Refusal<F>>
+        ensures { result_err result ≡ response_refusal (open_values self.now) (response_given response.now) }
     {
-        if is_same_side(request.side, self.auction.order().side) {
-            return Some(Refusal::SameSide);
+        if response.side == self.auction.order().side {
+            return Err(Refusal::SameSide);
         }
-        if self.is_above(request.price) {
-            return Some(Refusal::AboveInitiating);
+        if self.is_above(response.price) {
+            return Err(Refusal::AboveInitiating);
         }
-        let of = ResponseId {
-            member: request.member,
-            own: request.own,
-        };
-        if self.auction.response_of(of).is_some() {
-            return Some(Refusal::OwnNumberInUse);
+        if self
+            .auction
+            .response_of(response.member.response(response.own))
+            .is_some()
+        {
+            return Err(Refusal::OwnNumberInUse);
         }
-        if self.used_by(request.member) >= MOST_USED {
-            return Some(Refusal::ResponsesUsedUp);
+        if self.used_by(response.member) >= MOST_USED {
+            return Err(Refusal::ResponsesUsedUp);
         }
-        None
+        Ok(())
     }
 
     // The first refusal that a change of a standing response earns: 26, 23, 27.
-    pub(crate) fn change_refusal<F>(
+    pub(crate) fn check_change<F>(
         &self,
         standing: &Response,
-        request: &ChangeRequest,
-    ) -> Option<Refusal<F>>
-        requires price { price_ok request.now.price ≡ true }
-        requires member { from_to 1 16 request.now.member ≡ true }
-        ensures { result ≡ change_refusal (open_values self.now) standing.now request.now }
+        change: &CheckedChange,
+    ) -> Result<(), Refusal<F>>
+        ensures { result_err result ≡ change_refusal (open_values self.now) standing.now (change_given change.now) }
     {
-        if is_plain(standing.kind) {
-            return Some(Refusal::ResponseIsPlain);
+        if standing.kind == Kind::Plain {
+            return Err(Refusal::ResponseIsPlain);
         }
-        if self.is_above(request.price) {
-            return Some(Refusal::AboveInitiating);
+        if self.is_above(change.price) {
+            return Err(Refusal::AboveInitiating);
         }
-        if self.used_by(request.member) >= MOST_USED {
-            return Some(Refusal::ResponsesUsedUp);
+        if self.used_by(change.member) >= MOST_USED {
+            return Err(Refusal::ResponsesUsedUp);
         }
-        None
+        Ok(())
     }
 
-    pub(crate) fn is_plain_below_floor(&self, request: &ResponseRequest) -> bool
-        requires { price_ok request.now.price ≡ true }
-        ensures { result ≡ plain_below_floor (open_values self.now) request.now }
+    pub(crate) fn is_plain_below_floor(&self, response: &CheckedResponse) -> bool
+        ensures { result ≡ plain_below_floor (open_values self.now) (response_given response.now) }
     {
-        is_plain(request.kind) && self.turned(request.price) < self.auction.floor()
+        response.kind == Kind::Plain && self.turned(response.price) < self.auction.floor()
     }
 }

@@ -3,7 +3,7 @@ ghost use Rattle.std.specs.Prelude.{◌≡◌, true, None as Nothing};
 ghost use Rattle.market.specs.Prices.{showable};
 ghost use Rattle.room.specs.Looks.{auction_view};
 ghost use Rattle.room.specs.Rooms.{open_values};
-ghost use Rattle.room.specs.Ticks.{shown_above, shown_below, above_response, above_stop, tick_cause, floor_now, at_floor};
+ghost use Rattle.room.specs.Ticks.{shown_above, above_response, above_stop, tick_cause, floor_now, at_floor};
 
 use super::CurrentAuction;
 use crate::answers::AuctionView;
@@ -14,19 +14,7 @@ use market::range::TurnedQuote;
 fn is_above(shown: Option<i64>, price: i64) -> bool
     ensures { result ≡ shown_above shown price }
 {
-    match shown {
-        None => false,
-        Some(z) => price < z,
-    }
-}
-
-fn is_below(shown: Option<i64>, price: i64) -> bool
-    ensures { result ≡ shown_below shown price }
-{
-    match shown {
-        None => false,
-        Some(z) => z < price,
-    }
+    shown.is_some_and(|z| price < z)
 }
 
 impl CurrentAuction {
@@ -34,10 +22,7 @@ impl CurrentAuction {
     fn is_response_below(&self, floor: Option<i64>) -> bool
         ensures { result ≡ above_response floor (open_values self.now).values.stood }
     {
-        match floor {
-            None => false,
-            Some(z) => self.auction.is_any_below(z),
-        }
+        floor.is_some_and(|z| self.auction.is_any_below(z))
     }
 
     // The floor is above a single stop.
@@ -45,10 +30,7 @@ impl CurrentAuction {
         ensures { result ≡ above_stop floor (open_values self.now).values.order.guarantee.kind (open_values self.now).values.order.guarantee.price }
     {
         let guarantee = self.auction.order().guarantee;
-        match guarantee.kind {
-            GuaranteeKind::SingleStop => is_above(floor, guarantee.price),
-            GuaranteeKind::AutoMatchLimit => false,
-        }
+        guarantee.kind == GuaranteeKind::SingleStop && is_above(floor, guarantee.price)
     }
 
     // The first cause that what is now shown brings: B, C, D, F.
@@ -64,7 +46,8 @@ impl CurrentAuction {
         if self.is_stop_below(shown.floor) {
             return Some(EndCause::FloorAboveStop);
         }
-        if is_below(shown.contra, self.auction.order().guarantee.price) {
+        let guarantee = self.auction.order().guarantee;
+        if shown.contra.is_some_and(|z| z < guarantee.price) {
             return Some(EndCause::ContraBelowGuarantee);
         }
         None
@@ -77,15 +60,7 @@ impl CurrentAuction {
         ensures { open_values self.new ≡ at_floor (floor_now shown.now.floor (open_values self.old).values.floor) (open_values self.old) }
     {
         if let Some(floor) = shown.floor {
-            let mut auction = self.auction;
-            let _ = auction.move_floor(floor);
-            *self = CurrentAuction {
-                number: self.number,
-                deadline: self.deadline,
-                auction,
-                arrivals: self.arrivals,
-                used: self.used,
-            };
+            let _ = self.auction.move_floor(floor);
         }
     }
 

@@ -1,5 +1,5 @@
 // The clock step, with which every timed call begins, and the end of the open auction.
-ghost use Rattle.std.specs.Prelude.{◌≡◌, ◌≤◌};
+ghost use Rattle.std.specs.Prelude.{◌≡◌};
 ghost use Rattle.std.specs.Option.{option_map};
 ghost use Rattle.room.specs.Clock.{due, clocked};
 ghost use Rattle.room.specs.Rooms.{open_values, state_of};
@@ -7,6 +7,7 @@ ghost use Rattle.room.specs.State.{ended};
 
 use super::Room;
 use crate::auction::WaitingAuction;
+use crate::limits::Time;
 use allocation::cause::EndCause;
 use allocation::ranking::Ranking;
 use interval::source::IntervalSource;
@@ -18,13 +19,12 @@ impl<M: Market, R: Ranking, S: IntervalSource> Room<M, R, S> {
         ensures state { state_of M.Market.position S.IntervalSource.position self.new ≡ ended cause (state_of M.Market.position S.IntervalSource.position self.old) }
         ensures ranking { self.new.ranking ≡ self.old.ranking }
     {
-        if let Some(open) = self.current {
+        if let Some(open) = self.current.take() {
             let ended = Some(WaitingAuction {
                 number: open.number,
                 auction: open.auction,
                 cause,
             });
-            self.current = None;
             if self.first.is_none() {
                 self.first = ended;
             } else {
@@ -36,19 +36,15 @@ impl<M: Market, R: Ranking, S: IntervalSource> Room<M, R, S> {
     fn is_due(&self) -> bool
         ensures { result ≡ due self.now.time (option_map open_values self.now.current) }
     {
-        match self.current {
-            Some(open) => open.deadline <= self.time,
-            None => false,
-        }
+        self.current.is_some_and(|open| open.deadline <= self.time)
     }
 
     // The room's time becomes the later of its own and the given one; then an auction whose deadline is reached ends.
-    pub(crate) fn step_clock(&mut self, time: u64)
-        requires { time ≤ 4000000000000 }
-        ensures state { state_of M.Market.position S.IntervalSource.position self.new ≡ clocked (state_of M.Market.position S.IntervalSource.position self.old) time }
+    pub(crate) fn step_clock(&mut self, time: Time)
+        ensures state { state_of M.Market.position S.IntervalSource.position self.new ≡ clocked (state_of M.Market.position S.IntervalSource.position self.old) time.milliseconds }
         ensures ranking { self.new.ranking ≡ self.old.ranking }
     {
-        self.time = self.time.max(time);
+        self.time = self.time.max(time.milliseconds);
         if self.is_due() {
             self.end(EndCause::Deadline);
         }

@@ -2,69 +2,49 @@
 ghost use Rattle.std.specs.Prelude.{◌≡◌, false, ◌++◌, length, drop};
 ghost use Rattle.std.specs.Option.{option_map};
 ghost use Rattle.room.specs.Collecting.{collectable, collect_call, collect_rows};
-ghost use Rattle.room.specs.Rooms.{claim_numbers, collected_answer, ended_values, has_number, listed, open_values, state_of, waiting_result, world_of};
+ghost use Rattle.room.specs.Rooms.{claim_numbers, collected_answer, ended_values, listed, open_values, state_of, waiting_result, world_of};
 ghost use Rattle.room.specs.State.{is_number, numbered, without_number};
 
 use super::Room;
 use crate::answers::Collection;
 use crate::auction::WaitingAuction;
-use crate::checks::rows_refusal;
 use crate::claim::Claim;
 use crate::refusal::Refusal;
-use allocation::fill::FillRow;
+use allocation::fill::{FillRow, LEAST_ROWS};
 use allocation::ranking::Ranking;
 use interval::source::IntervalSource;
 use market::market::Market;
-
-fn has_number(place: &Option<WaitingAuction>, number: u32) -> bool
-    ensures { result ≡ has_number number place.now }
-{
-    match place {
-        Some(ended) => ended.number == number,
-        None => false,
-    }
-}
 
 impl<M: Market, R: Ranking, S: IntervalSource> Room<M, R, S> {
     // The waiting auction of this number, if there is one.
     fn numbered(&self, number: u32) -> Option<WaitingAuction>
         ensures { option_map ended_values result ≡ numbered number (listed self.now.first self.now.second) }
     {
-        if has_number(&self.first, number) {
-            return self.first;
-        }
-        if has_number(&self.second, number) {
-            return self.second;
-        }
-        None
+        let has_it = |ended: &WaitingAuction| ended.number == number;
+        self.first.filter(has_it).or(self.second.filter(has_it))
     }
 
     fn is_open(&self, number: u32) -> bool
         ensures { result ≡ is_number number (option_map open_values self.now.current) }
     {
-        match self.current {
-            Some(open) => open.number == number,
-            None => false,
-        }
+        self.current.is_some_and(|open| open.number == number)
     }
 
     // The auction of a claim, or the first refusal.
     fn collectable(&self, claim: &Claim, rows: usize) -> Result<WaitingAuction, Refusal<M::Fault>>
         ensures { waiting_result result ≡ collectable (state_of M.Market.position S.IntervalSource.position self.now) (claim_numbers claim.now) rows }
     {
-        if let Some(refusal) = rows_refusal(rows) {
-            return Err(refusal);
+        if rows < LEAST_ROWS {
+            return Err(Refusal::ListTooShort);
         }
-        if claim.room != self.number {
+        if claim.numbers.room != self.number {
             return Err(Refusal::NoSuchAuction);
         }
-        if self.is_open(claim.auction) {
+        if self.is_open(claim.numbers.auction) {
             return Err(Refusal::StillOpen);
         }
-        match self.numbered(claim.auction) {
-            Some(ended) => Ok(ended),
-            None => Err(Refusal::NoSuchAuction),
-        }
+        self.numbered(claim.numbers.auction)
+            .ok_or_else(|| Refusal::NoSuchAuction)
     }
 
     // Takes the auction of this number out of those that wait.
@@ -72,10 +52,10 @@ impl<M: Market, R: Ranking, S: IntervalSource> Room<M, R, S> {
         ensures state { state_of M.Market.position S.IntervalSource.position self.new ≡ Rattle.room.specs.State.with_waiting (without_number number (listed self.old.first self.old.second)) (state_of M.Market.position S.IntervalSource.position self.old) }
         ensures ranking { self.new.ranking ≡ self.old.ranking }
     {
-        if has_number(&self.first, number) {
-            self.first = self.second;
-            self.second = None;
-        } else if has_number(&self.second, number) {
+        let has_it = |ended: WaitingAuction| ended.number == number;
+        if self.first.is_some_and(has_it) {
+            self.first = self.second.take();
+        } else if self.second.is_some_and(has_it) {
             self.second = None;
         }
     }
@@ -91,15 +71,16 @@ impl<M: Market, R: Ranking, S: IntervalSource> Room<M, R, S> {
         ensures rows { rows.new ≡ collect_rows (world_of M.Market.meaning S.IntervalSource.meaning (R.Ranking.ahead self.old.ranking)) (state_of M.Market.position S.IntervalSource.position self.old) (claim_numbers claim) (length rows.old) ++ drop (length (collect_rows (world_of M.Market.meaning S.IntervalSource.meaning (R.Ranking.ahead self.old.ranking)) (state_of M.Market.position S.IntervalSource.position self.old) (claim_numbers claim) (length rows.old))) rows.old }
         ensures ranking { self.new.ranking ≡ self.old.ranking }
     {
+        // A match and no `map_err`: no closure can hold the claim, which cannot be dropped.
         let ended = match self.collectable(&claim, rows.len()) {
             Ok(ended) => ended,
             Err(refusal) => return Err((refusal, claim)),
         };
-        let Claim { room: _, auction } = claim;
+        let Claim { numbers } = claim;
         let Ok(count) = ended.auction.fill(&self.ranking, rows) else {
             unreachable()
         };
-        self.remove(auction);
+        self.remove(numbers.auction);
         Ok(Collection {
             count,
             cause: ended.cause,

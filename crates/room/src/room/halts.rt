@@ -4,7 +4,7 @@ ghost use Rattle.room.specs.Halts.{halt_call, resume_call, clock_call};
 ghost use Rattle.room.specs.Rooms.{state_of};
 
 use super::Room;
-use crate::checks::time_refusal;
+use crate::limits::Time;
 use crate::refusal::Refusal;
 use allocation::cause::EndCause;
 use allocation::ranking::Ranking;
@@ -18,9 +18,7 @@ impl<M: Market, R: Ranking, S: IntervalSource> Room<M, R, S> {
         ensures answer { result ≡ (halt_call (state_of M.Market.position S.IntervalSource.position self.old) time).1 }
         ensures ranking { self.new.ranking ≡ self.old.ranking }
     {
-        if let Some(refusal) = time_refusal(time) {
-            return Err(refusal);
-        }
+        let time = Time::checked(time)?;
         self.step_clock(time);
         self.end(EndCause::Halt);
         self.halted = true;
@@ -33,9 +31,7 @@ impl<M: Market, R: Ranking, S: IntervalSource> Room<M, R, S> {
         ensures answer { result ≡ (resume_call (state_of M.Market.position S.IntervalSource.position self.old) time).1 }
         ensures ranking { self.new.ranking ≡ self.old.ranking }
     {
-        if let Some(refusal) = time_refusal(time) {
-            return Err(refusal);
-        }
+        let time = Time::checked(time)?;
         self.step_clock(time);
         self.halted = false;
         Ok(())
@@ -47,9 +43,7 @@ impl<M: Market, R: Ranking, S: IntervalSource> Room<M, R, S> {
         ensures answer { result ≡ (clock_call (state_of M.Market.position S.IntervalSource.position self.old) time).1 }
         ensures ranking { self.new.ranking ≡ self.old.ranking }
     {
-        if let Some(refusal) = time_refusal(time) {
-            return Err(refusal);
-        }
+        let time = Time::checked(time)?;
         self.step_clock(time);
         Ok(())
     }

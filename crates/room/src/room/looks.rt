@@ -20,15 +20,11 @@ impl<M: Market, R: Ranking, S: IntervalSource> Room<M, R, S> {
     pub fn look(&self) -> View
         ensures { result ≡ look_call (state_of M.Market.position S.IntervalSource.position self.now) }
     {
-        let auction = match self.current {
-            Some(open) => Some(open.view()),
-            None => None,
-        };
         View {
             time: self.time,
             halted: self.halted,
             waiting: self.waiting(),
-            auction,
+            auction: self.current.map(|open| open.view()),
         }
     }
 }

@@ -14,6 +14,7 @@ pub mod opening;
 pub mod responses;
 pub mod ticks;
 
+// Contracts read a room by `state_of` and not by an `impl Model`, whose value could not name the positions of M and S.
 #[derive(Drop)]
 pub struct Room<M, R, S> {
     pub(crate) number: u32,

@@ -1,18 +1,19 @@
 // Opening an auction.
-ghost use Rattle.std.specs.Prelude.{◌≡◌, true, false, int_lt, nat_le};
+ghost use Rattle.std.specs.Prelude.{◌≡◌, false, int_lt, nat_le};
 ghost use Rattle.allocation.specs.Auction.{auction_values};
 ghost use Rattle.market.specs.Range.{range_prices};
 ghost use Rattle.market.specs.Refusals.{range_number};
 ghost use Rattle.market.specs.Turned.{turned};
-ghost use Rattle.room.specs.Checks.{price_ok, size_ok};
-ghost use Rattle.room.specs.Openings.{turned_order, stored_order, new_values, any_waits, opening_range, opened_with, open_call};
+ghost use Rattle.room.specs.HandedIn.{order_given};
+ghost use Rattle.room.specs.Openings.{stored_order, new_values, any_waits, opening_range, opened_with, open_call};
 ghost use Rattle.room.specs.Refusals.{refusal};
 ghost use Rattle.room.specs.Rooms.{claim_answer, listed, range_result, state_of, world_of};
 
 use super::Room;
+use crate::answers::ClaimNumbers;
 use crate::auction::CurrentAuction;
-use crate::checks::opening_refusal;
 use crate::claim::Claim;
+use crate::handed_in::CheckedOrder;
 use crate::refusal::Refusal;
 use crate::requests::OpeningRequest;
 use allocation::auction::Auction;
@@ -28,7 +29,8 @@ use market::refusal::RangeRefusal;
 // A million auctions can be opened in a room.
 const MOST_OPENED: u32 = 1_000_000;
 
-// The room's refusal of the same number: 14 or 15, and 2 for a limit that was not checked before.
+// The room's refusal of the same number: 14 or 15, and 2 for a limit that was not checked before. An impl of
+// `From<RangeRefusal>` would overlap the one that takes any market's fault.
 fn range_refusal<F>(told: RangeRefusal) -> Refusal<F>
     ensures { result ≡ refusal (range_number told) }
 {
@@ -40,83 +42,41 @@ fn range_refusal<F>(told: RangeRefusal) -> Refusal<F>
 }
 
 // The guarantee, turned, is above the initiating price.
-fn is_guarantee_above(order: &PairedOrder, range: &PermittedRange) -> bool
-    requires { price_ok order.now.guarantee.price ≡ true }
-    ensures { result ≡ int_lt range.now.initiating (turned order.now.side order.now.guarantee.price) }
+fn is_guarantee_above(order: &CheckedOrder, range: &PermittedRange) -> bool
+    ensures { result ≡ int_lt range.now.initiating (turned order.now.side order.now.guarantee.price.cents) }
 {
-    range.initiating < order.side.turn(order.guarantee.price)
-}
-
-fn turned_limit(order: &PairedOrder) -> i64
-    requires { price_ok order.now.limit ≡ true }
-    ensures { result ≡ turned order.now.side order.now.limit }
-{
-    order.side.turn(order.limit)
-}
-
-fn turned_guarantee(order: &PairedOrder) -> i64
-    requires { price_ok order.now.guarantee.price ≡ true }
-    ensures { result ≡ turned order.now.side order.now.guarantee.price }
-{
-    order.side.turn(order.guarantee.price)
-}
-
-// An order with its limit and its guarantee turned.
-fn turned_order(order: &PairedOrder) -> PairedOrder
-    requires limit { price_ok order.now.limit ≡ true }
-    requires guarantee { price_ok order.now.guarantee.price ≡ true }
-    ensures { result ≡ turned_order order.now }
-{
-    PairedOrder {
-        side: order.side,
-        size: order.size,
-        limit: turned_limit(order),
-        guarantee: Guarantee {
-            kind: order.guarantee.kind,
-            price: turned_guarantee(order),
-        },
-    }
-}
-
-fn is_below_floor(guarantee: &Guarantee, range: &PermittedRange) -> bool
-    ensures { result ≡ int_lt guarantee.now.price range.now.floor }
-{
-    guarantee.price < range.floor
+    range.initiating < order.guarantee.price.turned(order.side)
 }
 
 // An order as an auction stores it: limit and guarantee turned, and a guarantee below the floor at the floor.
-fn stored(order: &PairedOrder, range: &PermittedRange) -> PairedOrder
-    requires limit { price_ok order.now.limit ≡ true }
-    requires guarantee { price_ok order.now.guarantee.price ≡ true }
-    ensures { result ≡ stored_order range.now.floor order.now }
+fn stored(order: &CheckedOrder, range: &PermittedRange) -> PairedOrder
+    ensures { result ≡ stored_order range.now.floor (order_given order.now) }
 {
-    let mut stored = turned_order(order);
-    if is_below_floor(&stored.guarantee, range) {
-        stored.guarantee.price = range.floor;
-    }
+    let mut stored = PairedOrder {
+        side: order.side,
+        size: order.size.contracts,
+        limit: order.limit.turned(order.side),
+        guarantee: Guarantee {
+            kind: order.guarantee.kind,
+            price: order.guarantee.price.turned(order.side),
+        },
+    };
+    stored.guarantee.price = stored.guarantee.price.max(range.floor);
     stored
 }
 
 // The auction of an order in its range, with no response yet.
-fn new_auction(order: &PairedOrder, range: &PermittedRange) -> Auction
-    requires limit { price_ok order.now.limit ≡ true }
-    requires guarantee { price_ok order.now.guarantee.price ≡ true }
-    requires size { size_ok order.now.size ≡ true }
-    requires guaranteed { int_lt range.now.initiating (turned order.now.side order.now.guarantee.price) ≡ false }
-    ensures { auction_values result ≡ new_values order.now (range_prices range.now) }
+fn new_auction(order: &CheckedOrder, range: &PermittedRange) -> Auction
+    requires { int_lt range.now.initiating (turned order.now.side order.now.guarantee.price.cents) ≡ false }
+    ensures { auction_values result ≡ new_values (order_given order.now) (range_prices range.now) }
 {
-    let stored = stored(order, range);
-    let Some(auction) = Auction::new(stored, range.floor, range.initiating) else {
-        unreachable()
-    };
-    auction
+    Auction::new(stored(order, range), range.floor, range.initiating).unwrap()
 }
 
 impl<M: Market, R: Ranking, S: IntervalSource> Room<M, R, S> {
     // The range of an order that may open, or the first refusal.
-    fn opening_range(&self, order: &PairedOrder) -> Result<PermittedRange, Refusal<M::Fault>>
-        requires { price_ok order.now.guarantee.price ≡ true }
-        ensures { range_result result ≡ opening_range (world_of M.Market.meaning S.IntervalSource.meaning (R.Ranking.ahead self.now.ranking)) (state_of M.Market.position S.IntervalSource.position self.now) order.now }
+    fn opening_range(&self, order: &CheckedOrder) -> Result<PermittedRange, Refusal<M::Fault>>
+        ensures { range_result result ≡ opening_range (world_of M.Market.meaning S.IntervalSource.meaning (R.Ranking.ahead self.now.ranking)) (state_of M.Market.position S.IntervalSource.position self.now) (order_given order.now) }
     {
         if self.halted {
             return Err(Refusal::RoomHalted);
@@ -124,10 +84,9 @@ impl<M: Market, R: Ranking, S: IntervalSource> Room<M, R, S> {
         if self.first.is_some() || self.second.is_some() {
             return Err(Refusal::AuctionWaits);
         }
-        let range = match permitted_range(&self.market, order.side, order.limit) {
-            Ok(range) => range,
-            Err(told) => return Err(range_refusal(told)),
-        };
+        let range = permitted_range(&self.market, order.side, order.limit.cents).map_err(
+            |told| range_refusal(told),
+        )?;
         if is_guarantee_above(order, &range) {
             return Err(Refusal::GuaranteeAboveInitiating);
         }
@@ -138,14 +97,11 @@ impl<M: Market, R: Ranking, S: IntervalSource> Room<M, R, S> {
     }
 
     // Opens the auction of an order in its range; one that was open ends first.
-    fn begin(&mut self, order: &PairedOrder, range: PermittedRange)
-        requires limit { price_ok order.now.limit ≡ true }
-        requires guarantee { price_ok order.now.guarantee.price ≡ true }
-        requires size { size_ok order.now.size ≡ true }
+    fn begin(&mut self, order: &CheckedOrder, range: PermittedRange)
         requires none { any_waits (listed self.old.first self.old.second) ≡ false }
-        requires guaranteed { int_lt range.initiating (turned order.now.side order.now.guarantee.price) ≡ false }
+        requires guaranteed { int_lt range.initiating (turned order.now.side order.now.guarantee.price.cents) ≡ false }
         requires few { nat_le 1000000 self.old.opened ≡ false }
-        ensures state { state_of M.Market.position S.IntervalSource.position self.new ≡ opened_with (world_of M.Market.meaning S.IntervalSource.meaning (R.Ranking.ahead self.old.ranking)) (state_of M.Market.position S.IntervalSource.position self.old) order.now (range_prices range) }
+        ensures state { state_of M.Market.position S.IntervalSource.position self.new ≡ opened_with (world_of M.Market.meaning S.IntervalSource.meaning (R.Ranking.ahead self.old.ranking)) (state_of M.Market.position S.IntervalSource.position self.old) (order_given order.now) (range_prices range) }
         ensures ranking { self.new.ranking ≡ self.old.ranking }
     {
         let auction = new_auction(order, &range);
@@ -165,18 +121,15 @@ impl<M: Market, R: Ranking, S: IntervalSource> Room<M, R, S> {
         ensures answer { claim_answer result ≡ (open_call (world_of M.Market.meaning S.IntervalSource.meaning (R.Ranking.ahead self.old.ranking)) (state_of M.Market.position S.IntervalSource.position self.old) request).1 }
         ensures ranking { self.new.ranking ≡ self.old.ranking }
     {
-        if let Some(refusal) = opening_refusal(&request) {
-            return Err(refusal);
-        }
-        self.step_clock(request.time);
-        let range = match self.opening_range(&request.order) {
-            Ok(range) => range,
-            Err(refusal) => return Err(refusal),
-        };
-        self.begin(&request.order, range);
+        let opening = request.checked()?;
+        self.step_clock(opening.time);
+        let range = self.opening_range(&opening.order)?;
+        self.begin(&opening.order, range);
         Ok(Claim {
-            room: self.number,
-            auction: self.opened,
+            numbers: ClaimNumbers {
+                room: self.number,
+                auction: self.opened,
+            },
         })
     }
 }

@@ -1,17 +1,16 @@
-// Responding to the open auction, changing a response and withdrawing one.
+// Responding to the open auction, changing a response and withdrawing one. The open auction is lent by a pattern: after
+// `as_mut` and `?` the check no longer knew it where a call is refused. `ok_or` would have to drop a market's fault.
 ghost use Rattle.std.specs.Prelude.{◌≡◌};
 ghost use Rattle.room.specs.Responses.{respond_call, change_call, withdraw_call};
 ghost use Rattle.room.specs.Rooms.{state_of};
 
 use super::Room;
 use crate::answers::StoredTerms;
-use crate::auction::responses::is_plain;
-use crate::checks::{change_refusal, response_refusal, withdrawal_refusal};
 use crate::refusal::Refusal;
 use crate::requests::{ChangeRequest, ResponseRequest, WithdrawRequest};
 use allocation::cause::EndCause;
 use allocation::ranking::Ranking;
-use allocation::response::ResponseId;
+use allocation::response::Kind;
 use interval::source::IntervalSource;
 use market::market::Market;
 
@@ -22,19 +21,14 @@ impl<M: Market, R: Ranking, S: IntervalSource> Room<M, R, S> {
         ensures answer { result ≡ (respond_call (state_of M.Market.position S.IntervalSource.position self.old) request).1 }
         ensures ranking { self.new.ranking ≡ self.old.ranking }
     {
-        if let Some(refusal) = response_refusal(&request) {
-            return Err(refusal);
-        }
-        self.step_clock(request.time);
-        let Some(mut open) = self.current else {
+        let response = request.checked()?;
+        self.step_clock(response.time);
+        let Some(open) = &mut self.current else {
             return Err(Refusal::NoAuctionOpen);
         };
-        if let Some(refusal) = open.response_refusal(&request) {
-            return Err(refusal);
-        }
-        let ends = open.is_plain_below_floor(&request);
-        let stored = open.store(&request);
-        self.current = Some(open);
+        open.check_response(&response)?;
+        let ends = open.is_plain_below_floor(&response);
+        let stored = open.store(&response);
         if ends {
             self.end(EndCause::PlainBelowFloor);
         }
@@ -47,25 +41,17 @@ impl<M: Market, R: Ranking, S: IntervalSource> Room<M, R, S> {
         ensures answer { result ≡ (change_call (state_of M.Market.position S.IntervalSource.position self.old) request).1 }
         ensures ranking { self.new.ranking ≡ self.old.ranking }
     {
-        if let Some(refusal) = change_refusal(&request) {
-            return Err(refusal);
-        }
-        self.step_clock(request.time);
-        let Some(mut open) = self.current else {
+        let change = request.checked()?;
+        self.step_clock(change.time);
+        let Some(open) = &mut self.current else {
             return Err(Refusal::NoAuctionOpen);
         };
-        let of = ResponseId {
-            member: request.member,
-            own: request.own,
-        };
-        let Some(standing) = open.auction.response_of(of) else {
-            return Err(Refusal::NoSuchResponse);
-        };
-        if let Some(refusal) = open.change_refusal(&standing, &request) {
-            return Err(refusal);
-        }
-        let stored = open.change(&request);
-        self.current = Some(open);
+        let standing = open
+            .auction
+            .response_of(change.member.response(change.own))
+            .ok_or_else(|| Refusal::NoSuchResponse)?;
+        open.check_change(&standing, &change)?;
+        let stored = open.change(&change);
         Ok(stored)
     }
 
@@ -75,25 +61,19 @@ impl<M: Market, R: Ranking, S: IntervalSource> Room<M, R, S> {
         ensures answer { result ≡ (withdraw_call (state_of M.Market.position S.IntervalSource.position self.old) request).1 }
         ensures ranking { self.new.ranking ≡ self.old.ranking }
     {
-        if let Some(refusal) = withdrawal_refusal(&request) {
-            return Err(refusal);
-        }
-        self.step_clock(request.time);
-        let Some(mut open) = self.current else {
+        let withdrawal = request.checked()?;
+        self.step_clock(withdrawal.time);
+        let Some(open) = &mut self.current else {
             return Err(Refusal::NoAuctionOpen);
         };
-        let of = ResponseId {
-            member: request.member,
-            own: request.own,
-        };
-        let Some(standing) = open.auction.response_of(of) else {
-            return Err(Refusal::NoSuchResponse);
-        };
-        if is_plain(standing.kind) {
+        let standing = open
+            .auction
+            .response_of(withdrawal.member.response(withdrawal.own))
+            .ok_or_else(|| Refusal::NoSuchResponse)?;
+        if standing.kind == Kind::Plain {
             return Err(Refusal::ResponseIsPlain);
         }
-        let stored = open.withdraw(&request, &standing);
-        self.current = Some(open);
+        let stored = open.withdraw(&withdrawal, &standing);
         Ok(stored)
     }
 }

@@ -5,7 +5,7 @@ ghost use Rattle.room.specs.Rooms.{state_of, open_values, world_of};
 ghost use Rattle.room.specs.Ticks.{ticked, tick_call};
 
 use super::Room;
-use crate::checks::time_refusal;
+use crate::limits::Time;
 use crate::refusal::Refusal;
 use allocation::ranking::Ranking;
 use interval::source::IntervalSource;
@@ -18,16 +18,13 @@ impl<M: Market, R: Ranking, S: IntervalSource> Room<M, R, S> {
         ensures state { state_of M.Market.position S.IntervalSource.position self.new ≡ ticked (option_map open_values self.old.current) (M.Market.meaning.shows (M.Market.position self.old.market)) (state_of M.Market.position S.IntervalSource.position self.old) }
         ensures ranking { self.new.ranking ≡ self.old.ranking }
     {
-        let Some(mut open) = self.current else {
+        let Some(open) = &mut self.current else {
             return;
         };
         let shown = turned_quote(&self.market, open.auction.order().side);
         match open.tick_cause(&shown) {
             Some(cause) => self.end(cause),
-            None => {
-                open.take_floor(&shown);
-                self.current = Some(open);
-            }
+            None => open.take_floor(&shown),
         }
     }
 }
@@ -42,9 +39,7 @@ where
         ensures answer { result ≡ (tick_call (world_of M.Market.meaning S.IntervalSource.meaning (R.Ranking.ahead self.old.ranking)) (state_of M.Market.position S.IntervalSource.position self.old) time tick).1 }
         ensures ranking { self.new.ranking ≡ self.old.ranking }
     {
-        if let Some(refusal) = time_refusal(time) {
-            return Err(refusal);
-        }
+        let time = Time::checked(time)?;
         self.step_clock(time);
         self.market.tick(tick)?;
         self.take_notice();

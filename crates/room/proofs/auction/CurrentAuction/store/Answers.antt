@@ -1,66 +1,25 @@
-use Rattle.std.proofs.Common.{◌≡◌, ℕ, ◌+◌, true, leb, ℤ, Some, ap, ◌∙◌, arith, w64, SFits, to_z, of_z, rules}
+use Rattle.std.proofs.Common.{ap, ◌∙◌, w64, SFits, rules}
 use Rattle.std.proofs.lemmas.Int.{to_z-of_z}
-use Rattle.std.proofs.lemmas.Bool.Decides.{nat_tests}
-use Rattle.market.specs.Prices.{showable}
-use Rattle.allocation.specs.declared.response.Response.{Response}
-use Rattle.allocation.specs.Auction.{AuctionValues, auction_values, stored}
+use Rattle.allocation.specs.Auction.{auction_values}
 use Rattle.room.specs.Counts.{all_arrived}
-use Rattle.room.specs.Responses.{stored_price, stored_size, terms_told, as_stored}
-use Rattle.room.specs.Rooms.{open_values}
-use Rattle.room.specs.State.{one_more}
-use Rattle.room.proofs.Counting.{total_most, arrived_next, arrived_push}
-use Rattle.room.proofs.Storing.{stored_shown, stores, together}
+use Rattle.room.specs.HandedIn.{response_given}
+use Rattle.room.specs.State.{OpenAuction}
+use Rattle.room.proofs.Storing.{counted_stores, response_arrived}
 use Rattle.room.proofs.auction.CurrentAuction.store.Goals as goal
 
-pub told-told-requires : goal.told-told-requires
-told-told-requires c =
+pub invariant_of-self-clause-arrived : goal.invariant_of-self-clause-arrived
+invariant_of-self-clause-arrived c =
     let a = c.args.self.now in
-    let x = c.args.request.now in
-    let asked : SFits w64 x.price = search rules in
+    let x = c.args.response.now in
     let fits : SFits w64 c.stored_price-price.result = search rules in
-    ap (λ (z : ℤ). showable (Some z)) (to_z-of_z w64 c.stored_price-price.result fits ∙ c.stored_price-price.ensures ∙ ap (stored_price (open_values a)) (to_z-of_z w64 x.price asked))
-    ∙ stored_shown a x.member x.size x.price c.requires.terms
+    let price = to_z-of_z w64 c.stored_price-price.result fits ∙ c.stored_price-price.ensures in
+    let after = counted_stores a c.count-arrival.new.self c.stored_size-size.result c.count-arrival.result _ (auction_values c.store.new.self) x c.requires c.count-arrival.ensures.counted c.stored_size-size.ensures price c.count-arrival.ensures.arrival c.store.ensures.after in
+    ap (λ (o : OpenAuction). all_arrived o.arrivals o.values.stood) after ∙ response_arrived a (response_given x)
 
-pub overflow_add-self : goal.overflow_add-self
-overflow_add-self c =
+pub returns-clause-after : goal.returns-clause-after
+returns-clause-after c =
     let a = c.args.self.now in
-    let most = total_most a.used a.few in
-    let members = a.members in
-    let counted = a.counted in
-    omega arith
-
-pub put-requires : goal.put-requires
-put-requires c =
-    let a = c.args.self.now in
-    let x = c.args.request.now in
-    let v = auction_values a.auction in
-    let asked : SFits w64 x.price = search rules in
+    let x = c.args.response.now in
     let fits : SFits w64 c.stored_price-price.result = search rules in
-    let price = to_z-of_z w64 c.stored_price-price.result fits ∙ c.stored_price-price.ensures ∙ ap (stored_price (open_values a)) (to_z-of_z w64 x.price asked) in
-    let response : ℕ → ℤ → Response = λ n z. record { member = x.member; own = x.own; kind = x.kind; class = x.class; size = n; price = z; arrival = a.arrivals + 1 } in
-    let after = c.store.ensures.after ∙ ap (λ n. stored v (response n (to_z w64 (of_z w64 c.stored_price-price.result)))) c.stored_size-size.ensures
-    ∙ ap (λ z. stored v (response (stored_size (open_values a) x.size) z)) price ∙ stores a x c.requires in
-    let last : leb (a.arrivals + 1) (a.arrivals + 1) ≡ true = grind (arith, nat_tests) in
-    record {
-      member = c.requires.terms.a_member;
-      left = c.requires.terms.some_left;
-      arrived = ap (λ (u : AuctionValues). all_arrived (a.arrivals + 1) u.stood) after
-          ∙ arrived_push (a.arrivals + 1) v.stood (as_stored (open_values a) x) (arrived_next a.arrivals v.stood a.arrived) last;
-    }
-
-pub returns : goal.returns
-returns c =
-    let a = c.args.self.now in
-    let x = c.args.request.now in
-    let v = auction_values a.auction in
-    let put = c.put.new.self in
-    let asked : SFits w64 x.price = search rules in
-    let fits : SFits w64 c.stored_price-price.result = search rules in
-    let price = to_z-of_z w64 c.stored_price-price.result fits ∙ c.stored_price-price.ensures ∙ ap (stored_price (open_values a)) (to_z-of_z w64 x.price asked) in
-    let response : ℕ → ℤ → Response = λ n z. record { member = x.member; own = x.own; kind = x.kind; class = x.class; size = n; price = z; arrival = a.arrivals + 1 } in
-    let after = c.put.ensures.values ∙ c.store.ensures.after ∙ ap (λ n. stored v (response n (to_z w64 (of_z w64 c.stored_price-price.result)))) c.stored_size-size.ensures
-    ∙ ap (λ z. stored v (response (stored_size (open_values a) x.size) z)) price ∙ stores a x c.requires in
-    record {
-      after = together put.number a.number put.deadline a.deadline (auction_values put.auction) _ put.arrivals (a.arrivals + 1) put.used (one_more x.member a.used) c.put.ensures.number c.put.ensures.deadline after c.put.ensures.arrivals c.put.ensures.used;
-      answer = c.told-told.ensures ∙ ap (λ n. terms_told (open_values a) (to_z w64 (of_z w64 c.stored_price-price.result)) n) c.stored_size-size.ensures ∙ ap (λ z. terms_told (open_values a) z (stored_size (open_values a) x.size)) price;
-    }
+    let price = to_z-of_z w64 c.stored_price-price.result fits ∙ c.stored_price-price.ensures in
+    counted_stores a c.count-arrival.new.self c.stored_size-size.result c.count-arrival.result _ (auction_values c.store.new.self) x c.requires c.count-arrival.ensures.counted c.stored_size-size.ensures price c.count-arrival.ensures.arrival c.store.ensures.after

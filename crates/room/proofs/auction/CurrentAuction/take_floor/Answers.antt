@@ -7,7 +7,7 @@ use Rattle.allocation.specs.Auction.{AuctionValues, auction_values, may_move_flo
 use Rattle.room.specs.Counts.{all_arrived}
 use Rattle.room.specs.Rooms.{open_values}
 use Rattle.room.specs.Ticks.{tick_cause, floor_now, at_floor}
-use Rattle.room.proofs.Storing.{floor_moves}
+use Rattle.room.proofs.Storing.{with_values, floor_moves}
 use Rattle.room.proofs.auction.CurrentAuction.take_floor.Goals as goal
 
 -- the floor is moved
@@ -20,15 +20,16 @@ moved a q f after fits is shown none e =
     let may = floor_moves a f q.contra can no_end in
     e ∙ ap (λ z. cond (may_move_floor v z) (with_floor v z) v) (to_z-of_z w64 f fits) ∙ ap (λ (b : Bool). cond b (with_floor v f) v) may
 
-pub invariant_of-self : goal.invariant_of-self
-invariant_of-self c =
+pub invariant_of-self-clause-arrived : goal.invariant_of-self-clause-arrived
+invariant_of-self-clause-arrived c =
     let a = c.args.self.now in
     let fits : SFits w64 c.in-Some.floor = search rules in
-    record { members = a.members; few = a.few; counted = a.counted; arrived = ap (λ (v : AuctionValues). all_arrived a.arrivals v.stood) (moved a.auction c.args.shown.now c.in-Some.floor (auction_values c.move_floor.new.self) fits c.in-Some.is c.requires.floor c.requires.kept c.move_floor.ensures.after) ∙ a.arrived }
+    let after = moved a.auction c.args.shown.now c.in-Some.floor (auction_values c.move_floor.new.self) fits c.in-Some.is c.requires.floor c.requires.kept c.move_floor.ensures.after in
+    ap (λ (v : AuctionValues). all_arrived a.arrivals v.stood) after ∙ a.arrived
 
 pub returns-in-Some : goal.returns-in-Some
 returns-in-Some c =
     let a = open_values c.args.self.now in
     let fits : SFits w64 c.in-Some.floor = search rules in
-    ap (λ (v : AuctionValues). record { number = a.number; deadline = a.deadline; values = v; arrivals = a.arrivals; used = a.used }) (moved c.args.self.now.auction c.args.shown.now c.in-Some.floor (auction_values c.move_floor.new.self) fits c.in-Some.is c.requires.floor c.requires.kept c.move_floor.ensures.after)
+    ap (with_values a) (moved c.args.self.now.auction c.args.shown.now c.in-Some.floor (auction_values c.move_floor.new.self) fits c.in-Some.is c.requires.floor c.requires.kept c.move_floor.ensures.after)
     ∙ sym (ap (λ (o : Option ℤ). at_floor (floor_now o a.values.floor) a) c.in-Some.is)

@@ -1,29 +1,33 @@
-use Rattle.std.proofs.Common.{ℤ, Some, ap, ◌∙◌, w64, SFits, rules}
+use Rattle.std.proofs.Common.{ℤ, Some, leb, ap, ◌∙◌, w64, SFits, rules}
 use Rattle.std.proofs.lemmas.Int.{to_z-of_z}
 use Rattle.market.specs.Prices.{showable}
-use Rattle.allocation.specs.Auction.{AuctionValues, auction_values}
+use Rattle.allocation.specs.declared.response.Response.{Response}
+use Rattle.allocation.specs.declared.response.ResponseId.{ResponseId}
+use Rattle.allocation.specs.Auction.{AuctionValues, auction_values, withdrawn}
 use Rattle.allocation.proofs.ByOwnNumber.{own_removed}
 use Rattle.room.specs.Counts.{all_arrived}
-use Rattle.room.proofs.Counting.{arrived_without}
-use Rattle.room.proofs.Storing.{terms_of, standing_shown}
+use Rattle.room.specs.Rooms.{open_values}
+use Rattle.room.proofs.Sound.{each_without}
+use Rattle.room.proofs.Storing.{with_values, standing_shown}
 use Rattle.room.proofs.auction.CurrentAuction.withdraw.Goals as goal
 
 pub told-told-requires : goal.told-told-requires
 told-told-requires c =
-    let a = c.args.self.now.auction in
-    let v = auction_values a in
-    let fits : SFits w64 c.args.standing.now.price = search rules in
-    ap (λ (z : ℤ). showable (Some z)) (to_z-of_z w64 c.args.standing.now.price fits)
-    ∙ standing_shown c.args.request.now.member c.args.request.now.own v.order.size v.floor v.initiating v.stood c.args.standing.now (terms_of a).floor_shown (terms_of a).initiating_shown a.responses c.requires
+    let x = c.args.withdrawal.now in
+    let y = c.args.standing.now in
+    let fits : SFits w64 y.price = search rules in
+    ap (λ (z : ℤ). showable (Some z)) (to_z-of_z w64 y.price fits) ∙ standing_shown c.args.self.now.auction x.member.number x.own.number y c.requires
 
-pub invariant_of-self : goal.invariant_of-self
-invariant_of-self c =
+pub invariant_of-self-clause-arrived : goal.invariant_of-self-clause-arrived
+invariant_of-self-clause-arrived c =
     let a = c.args.self.now in
-    let stood = ap (λ (v : AuctionValues). v.stood) (c.withdraw.ensures.after ∙ own_removed (auction_values a.auction) c.args.request.now.member c.args.request.now.own) in
-    record { members = a.members; few = a.few; counted = a.counted; arrived = ap (all_arrived a.arrivals) stood ∙ arrived_without a.arrivals c.args.request.now.member c.args.request.now.own (auction_values a.auction).stood a.arrived }
+    let x = c.args.withdrawal.now in
+    let v = auction_values a.auction in
+    ap (λ (u : AuctionValues). all_arrived a.arrivals u.stood) (c.withdraw.ensures.after ∙ ap (λ (of : ResponseId). withdrawn v of.member of.own) c.response.ensures ∙ own_removed v x.member.number x.own.number)
+    ∙ each_without x.member.number x.own.number (λ (y : Response). leb y.arrival a.arrivals) v.stood a.arrived
 
 pub returns-clause-after : goal.returns-clause-after
 returns-clause-after c =
     let a = c.args.self.now in
-    let values = c.withdraw.ensures.after ∙ own_removed (auction_values a.auction) c.args.request.now.member c.args.request.now.own in
-    ap (λ (v : AuctionValues). record { number = a.number; deadline = a.deadline; values = v; arrivals = a.arrivals; used = a.used }) values
+    let x = c.args.withdrawal.now in
+    ap (with_values (open_values a)) (c.withdraw.ensures.after ∙ ap (λ (of : ResponseId). withdrawn (auction_values a.auction) of.member of.own) c.response.ensures ∙ own_removed (auction_values a.auction) x.member.number x.own.number)

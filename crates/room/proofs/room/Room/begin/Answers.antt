@@ -1,5 +1,4 @@
-use Rattle.std.proofs.Common.{◌≡◌, ◌+◌, ◌≤◌, is_some, ap, arith}
-use Rattle.std.proofs.lemmas.Bool.Decides.{nat_tests}
+use Rattle.std.proofs.Common.{is_some, ap}
 use Rattle.std.specs.Option.{option_map}
 use Rattle.allocation.specs.declared.cause.EndCause.TheVariants.{NextAuction}
 use Rattle.room.specs.Rooms.{listed, open_values}
@@ -7,15 +6,9 @@ use Rattle.room.specs.State.{RoomState}
 use Rattle.room.proofs.Listed.{second_free}
 use Rattle.room.proofs.room.Room.begin.Goals as goal
 
-pub invariant_of-self : goal.invariant_of-self
-invariant_of-self g c =
+pub invariant_of-self-clause-places : goal.invariant_of-self-clause-places
+invariant_of-self-clause-places g c =
     let before = c.args.self.now in
     let after = c.end.new.self in
-    let same : after.opened ≡ before.opened = ap (λ (z : RoomState g.M.Market.Position g.S.IntervalSource.Position). z.opened) c.end.ensures.state in
-    let left = c.requires.few in
     let waits = ap (λ (z : RoomState g.M.Market.Position g.S.IntervalSource.Position). z.waiting) c.end.ensures.state in
-    record {
-      in_time = after.in_time;
-      few = let less : before.opened + 1 ≤ 1000000 = grind (arith, nat_tests) in omega arith;
-      places = second_free NextAuction (option_map open_values before.current) (listed before.first before.second) (is_some after.current) after.first after.second c.requires.none waits after.places;
-    }
+    second_free NextAuction (option_map open_values before.current) (listed before.first before.second) (is_some after.current) after.first after.second c.requires.none waits after.places

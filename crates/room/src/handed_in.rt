@@ -1,0 +1,125 @@
+// What members hand in, with every part within its limits. In each of these the parts are checked in the order in which
+// they are listed, and the first that fails is told.
+ghost use Rattle.std.specs.Prelude.{◌≡◌, Ok};
+ghost use Rattle.room.specs.HandedIn.{opening_given, response_given, change_given, withdrawal_given};
+ghost use Rattle.room.specs.Checks.{open_checks, respond_checks, change_checks, withdraw_checks};
+ghost use Rattle.room.specs.Refusals.{seen_as, unless};
+
+use crate::limits::{Member, OwnNumber, Price, Size, Time};
+use crate::refusal::Refusal;
+use crate::requests::{ChangeRequest, OpeningRequest, ResponseRequest, WithdrawRequest};
+use allocation::order::GuaranteeKind;
+use allocation::response::{Class, Kind};
+use market::side::Side;
+
+#[derive(Clone, Copy)]
+pub(crate) struct CheckedGuarantee {
+    pub(crate) kind: GuaranteeKind,
+    pub(crate) price: Price,
+}
+
+#[derive(Clone, Copy)]
+pub(crate) struct CheckedOrder {
+    pub(crate) side: Side,
+    pub(crate) limit: Price,
+    pub(crate) guarantee: CheckedGuarantee,
+    pub(crate) size: Size,
+}
+
+#[derive(Clone, Copy)]
+pub(crate) struct CheckedOpening {
+    pub(crate) time: Time,
+    pub(crate) order: CheckedOrder,
+    pub(crate) member: Member,
+}
+
+#[derive(Clone, Copy)]
+pub(crate) struct CheckedResponse {
+    pub(crate) time: Time,
+    pub(crate) price: Price,
+    pub(crate) size: Size,
+    pub(crate) member: Member,
+    pub(crate) own: OwnNumber,
+    pub(crate) side: Side,
+    pub(crate) kind: Kind,
+    pub(crate) class: Class,
+}
+
+#[derive(Clone, Copy)]
+pub(crate) struct CheckedChange {
+    pub(crate) time: Time,
+    pub(crate) price: Price,
+    pub(crate) size: Size,
+    pub(crate) member: Member,
+    pub(crate) own: OwnNumber,
+}
+
+#[derive(Clone, Copy)]
+pub(crate) struct CheckedWithdrawal {
+    pub(crate) time: Time,
+    pub(crate) member: Member,
+    pub(crate) own: OwnNumber,
+}
+
+impl OpeningRequest {
+    pub(crate) fn checked<F>(&self) -> Result<CheckedOpening, Refusal<F>>
+        ensures { seen_as result opening_given ≡ unless (open_checks self.now) (Ok self.now) }
+    {
+        Ok(CheckedOpening {
+            time: Time::checked(self.time)?,
+            order: CheckedOrder {
+                side: self.order.side,
+                limit: Price::checked(self.order.limit)?,
+                guarantee: CheckedGuarantee {
+                    kind: self.order.guarantee.kind,
+                    price: Price::checked(self.order.guarantee.price)?,
+                },
+                size: Size::checked(self.order.size)?,
+            },
+            member: Member::checked(self.member)?,
+        })
+    }
+}
+
+impl ResponseRequest {
+    pub(crate) fn checked<F>(&self) -> Result<CheckedResponse, Refusal<F>>
+        ensures { seen_as result response_given ≡ unless (respond_checks self.now) (Ok self.now) }
+    {
+        Ok(CheckedResponse {
+            time: Time::checked(self.time)?,
+            price: Price::checked(self.price)?,
+            size: Size::checked(self.size)?,
+            member: Member::checked(self.member)?,
+            own: OwnNumber::checked(self.own)?,
+            side: self.side,
+            kind: self.kind,
+            class: self.class,
+        })
+    }
+}
+
+impl ChangeRequest {
+    pub(crate) fn checked<F>(&self) -> Result<CheckedChange, Refusal<F>>
+        ensures { seen_as result change_given ≡ unless (change_checks self.now) (Ok self.now) }
+    {
+        Ok(CheckedChange {
+            time: Time::checked(self.time)?,
+            price: Price::checked(self.price)?,
+            size: Size::checked(self.size)?,
+            member: Member::checked(self.member)?,
+            own: OwnNumber::checked(self.own)?,
+        })
+    }
+}
+
+impl WithdrawRequest {
+    pub(crate) fn checked<F>(&self) -> Result<CheckedWithdrawal, Refusal<F>>
+        ensures { seen_as result withdrawal_given ≡ unless (withdraw_checks self.now) (Ok self.now) }
+    {
+        Ok(CheckedWithdrawal {
+            time: Time::checked(self.time)?,
+            member: Member::checked(self.member)?,
+            own: OwnNumber::checked(self.own)?,
+        })
+    }
+}

@@ -1,0 +1,125 @@
+// What is handed in, once it is known to be within its limits: each of these is made by its check alone.
+ghost use Rattle.std.specs.Prelude.{◌≡◌, ◌-◌, ◌<◌, ◌≤◌, true, Ok, Some, None as Nothing};
+ghost use Rattle.allocation.specs.AuctionInvariant.{from_to};
+ghost use Rattle.market.specs.Prices.{in_limits};
+ghost use Rattle.market.specs.Turned.{turned};
+ghost use Rattle.room.specs.Checks.{time_checked, price_checked, size_checked, member_checked, own_checked};
+ghost use Rattle.room.specs.Refusals.{seen_as, unless};
+
+use crate::refusal::Refusal;
+use allocation::limits::{is_member, is_own_number, is_size};
+use allocation::response::ResponseId;
+use market::prices::in_limits;
+use market::side::Side;
+
+const LAST_TIME: u64 = 4_000_000_000_000;
+
+#[derive(Clone, Copy)]
+pub(crate) struct Time {
+    pub(crate) milliseconds: u64,
+    ghost in_limits: { milliseconds ≤ 4000000000000 },
+}
+
+#[derive(Clone, Copy)]
+pub(crate) struct Price {
+    pub(crate) cents: i64,
+    ghost in_limits: { in_limits (Some cents) ≡ true },
+}
+
+#[derive(Clone, Copy)]
+pub(crate) struct Size {
+    pub(crate) contracts: u32,
+    ghost in_limits: { from_to 1 100000 contracts ≡ true },
+}
+
+#[derive(Clone, Copy)]
+pub(crate) struct Member {
+    pub(crate) number: u8,
+    ghost in_limits: { from_to 1 16 number ≡ true },
+}
+
+#[derive(Clone, Copy)]
+pub(crate) struct OwnNumber {
+    pub(crate) number: u8,
+    ghost in_limits: { from_to 1 4 number ≡ true },
+}
+
+impl Time {
+    pub(crate) fn checked<F>(milliseconds: u64) -> Result<Time, Refusal<F>>
+        ensures { seen_as result (λ x. x.milliseconds) ≡ unless (time_checked milliseconds Nothing) (Ok milliseconds) }
+    {
+        if milliseconds > LAST_TIME {
+            return Err(Refusal::TimeOverLimit);
+        }
+        Ok(Time { milliseconds })
+    }
+}
+
+impl Price {
+    pub(crate) fn checked<F>(cents: i64) -> Result<Price, Refusal<F>>
+        ensures { seen_as result (λ x. x.cents) ≡ unless (price_checked cents Nothing) (Ok cents) }
+    {
+        if !in_limits(cents) {
+            return Err(Refusal::PriceOutsideLimits);
+        }
+        Ok(Price { cents })
+    }
+
+    // The price itself for a buy, with its sign changed for a sell.
+    pub(crate) fn turned(self, side: Side) -> i64
+        ensures { result ≡ turned side self.cents }
+    {
+        side.turn(self.cents)
+    }
+}
+
+impl Size {
+    pub(crate) fn checked<F>(contracts: u32) -> Result<Size, Refusal<F>>
+        ensures { seen_as result (λ x. x.contracts) ≡ unless (size_checked contracts Nothing) (Ok contracts) }
+    {
+        if !is_size(contracts) {
+            return Err(Refusal::SizeOutsideLimits);
+        }
+        Ok(Size { contracts })
+    }
+}
+
+impl Member {
+    pub(crate) fn checked<F>(number: u8) -> Result<Member, Refusal<F>>
+        ensures { seen_as result (λ x. x.number) ≡ unless (member_checked number Nothing) (Ok number) }
+    {
+        if !is_member(number) {
+            return Err(Refusal::MemberOutsideLimits);
+        }
+        Ok(Member { number })
+    }
+
+    // The member's place in a list of all.
+    pub(crate) fn place(self) -> usize
+        ensures place { result ≡ self.number - 1 }
+        ensures within { result < 16 }
+    {
+        usize::from(self.number - 1)
+    }
+
+    // The response of this member with this own number.
+    pub(crate) fn response(self, own: OwnNumber) -> ResponseId
+        ensures { result ≡ record { member = self.number; own = own.number } }
+    {
+        ResponseId {
+            member: self.number,
+            own: own.number,
+        }
+    }
+}
+
+impl OwnNumber {
+    pub(crate) fn checked<F>(number: u8) -> Result<OwnNumber, Refusal<F>>
+        ensures { seen_as result (λ x. x.number) ≡ unless (own_checked number Nothing) (Ok number) }
+    {
+        if !is_own_number(number) {
+            return Err(Refusal::OwnNumberOutsideLimits);
+        }
+        Ok(OwnNumber { number })
+    }
+}
