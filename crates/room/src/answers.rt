@@ -3,7 +3,7 @@ use allocation::cause::EndCause;
 use market::side::Side;
 
 // The numbers of a claim: of its room, and of the auction that it collects.
-#[derive(Clone, Copy)]
+#[derive(Clone, Copy, PartialEq, Eq)]
 pub struct ClaimNumbers {
     pub room: u32,
     pub auction: u32,

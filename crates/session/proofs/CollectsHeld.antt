@@ -15,7 +15,7 @@ use Rattle.room.specs.World.{World}
 use Rattle.session.specs.declared.calls.Call.TheVariants.{Collect}
 use Rattle.session.specs.Runs.{Answer, Collected, Refused, answered, step}
 use Rattle.session.specs.Sessions.{Session, session_of, session_after, session_answer, holds, purse_left, without_claim}
-use Rattle.session.proofs.ClaimsHeld.{none_held}
+use Rattle.session.proofs.ClaimsHeld.{without_none}
 use Rattle.room.proofs.Tests.{none_some, ok_err}
 
 module _ {P T F Q : Type 0} (w : World P T F Q) (s : RoomState P Q) (c : ClaimNumbers) where
@@ -107,6 +107,6 @@ module _ {P T F Q : Type 0} (w : World P T F Q) (s : RoomState P Q) (purse : Lis
   not_made h =
       let then : Session P Q = record { room = (step w s (Collect c n)).0; purse = purse_left (step w s (Collect c n)).1 c (without_claim c purse) } in (
         sym (ap (λ (b : Bool). (cond b then (session_of s purse)).room) h),
-        (none_held c purse h).all_others ∙ sym (ap (λ (b : Bool). (cond b then (session_of s purse)).purse) h),
+        without_none c purse h ∙ sym (ap (λ (b : Bool). (cond b then (session_of s purse)).purse) h),
         sym (ap (λ (b : Bool). cond b (Some (step w s (Collect c n)).1) None) h),
       )

@@ -1,0 +1,71 @@
+// The lists of rows that are kept for the collectings of a run.
+ghost use Rattle.std.specs.Prelude.{◌≡◌, ◌+◌, ◌≤◌, length, OnOk, IfOk};
+ghost use Rattle.session.specs.Memory.{is_collecting, collectings_in};
+
+use crate::calls::Call;
+use allocation::fill::{FillRow, LEAST_ROWS};
+use std::alloc::{AllocError, Global};
+use std::marker::Model;
+
+// Each list is empty and has a place for every row. A contract sees how many there are.
+#[derive(Drop)]
+pub(crate) struct RowLists {
+    lists: Vec<Vec<FillRow>>,
+}
+
+impl Model for RowLists {
+    ghost use Rattle.std.specs.Prelude.{ℕ, vec_len};
+    ghost use Rattle.std.specs.List.{All};
+    ghost use Rattle.session.specs.Memory.{TakesEveryRow};
+
+    ghost Value = { ℕ };
+
+    ghost view = { λ kept. vec_len kept.lists };
+
+    ghost invariant = { λ kept. All TakesEveryRow kept.lists.items };
+}
+
+fn is_collecting<T>(call: &Call<T>) -> bool
+    ensures { result ≡ is_collecting call.now }
+{
+    matches!(call, Call::Collect { .. })
+}
+
+impl RowLists {
+    // One for each of the calls that collect.
+    pub(crate) fn for_calls<T>(heap: Global, calls: &Vec<Call<T>>) -> Result<RowLists, AllocError>
+        ensures { IfOk result (λ kept. collectings_in calls.now.items ≤ kept) }
+    {
+        let mut kept = RowLists {
+            lists: Vec::new(heap),
+        };
+        for call in calls {
+            if is_collecting(call) {
+                kept.add(heap)?;
+            }
+        }
+        Ok(kept)
+    }
+
+    fn add(&mut self, heap: Global) -> Result<(), AllocError>
+        ensures { OnOk result (self.new ≡ self.old + 1) }
+    {
+        let list = Vec::with_capacity(heap, LEAST_ROWS)?;
+        self.lists.push(list)?;
+        Ok(())
+    }
+
+    // One of the lists, with these rows.
+    pub(crate) fn take(&mut self, rows: &[FillRow]) -> Vec<FillRow>
+        requires kept { 1 ≤ self.old }
+        requires few { length rows.now ≤ 129 }
+        ensures rows { result.items ≡ rows.now }
+        ensures one { self.new + 1 ≡ self.old }
+    {
+        let Some(mut list) = self.lists.pop() else {
+            unreachable()
+        };
+        let _ = list.extend_from_slice(rows);
+        list
+    }
+}
