@@ -1,12 +1,12 @@
 -- Finding a claim in a purse: the first of its numbers, and the others without it.
-use Rattle.std.proofs.Common.{◌≡◌, ℕ, zero, suc, ◌+◌, ◌<◌, ◌≤◌, Bool, true, false, cond, not, ◌||◌, eqb, List, [], ◌∷◌, ◌++◌, map, length, get_or, take, drop, Some, None, sym, refl, ap, ◌∙◌, le_of_suc-le-suc, not-suc-le-zero, nat_lt, arith}
+use Rattle.std.proofs.Common.{◌≡◌, ℕ, zero, suc, ◌<◌, ◌≤◌, Bool, true, false, cond, not, ◌||◌, eqb, List, [], ◌∷◌, map, length, get_or, Some, None, sym, refl, ap, ◌∙◌, le_of_suc-le-suc, not-suc-le-zero, nat_lt, arith}
 use Rattle.std.specs.List.{position, position_or_len, remove}
 use Rattle.std.proofs.lemmas.Bool.Decides.{nat_tests}
 use Rattle.std.proofs.lemmas.List.Quantifiers.{position-Some}
 use Rattle.std.proofs.lemmas.List.Sums.{prefix_len_passes}
 use Rattle.room.specs.declared.answers.ClaimNumbers.{ClaimNumbers}
 use Rattle.session.specs.Sessions.{same_claim, holds, without_claim}
-use Rattle.room.proofs.Tests.{true_false, left_true, right_true, or_false_left, or_false_right}
+use Rattle.room.proofs.Tests.{left_true, right_true, or_false_left, or_false_right}
 
 -- claims of the same numbers are equal as numbers
 pub same_is : (a b : ClaimNumbers) → same_claim a b ≡ true → a ≡ b

@@ -1,9 +1,7 @@
-use Rattle.std.proofs.Common.{map, sym, ap, ◌∙◌, vec_items}
+use Rattle.std.proofs.Common.{map, ap, ◌∙◌, vec_items}
 use Rattle.std.specs.Option.{option_map}
-use Rattle.std.specs.List.{position}
 use Rattle.room.specs.Rooms.{claim_numbers}
 use Rattle.session.specs.Purses.{PurseValue}
-use Rattle.session.specs.Sessions.{same_claim}
 use Rattle.session.proofs.ClaimsHeld.{taken, none_taken}
 use Rattle.session.proofs.purse.Purse.take.Goals as goal
 

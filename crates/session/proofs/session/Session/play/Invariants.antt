@@ -17,5 +17,5 @@ invariant-loop-call g l =
       session : session_end w now_at rest ≡ session_end w first all;
       ranking : l.self.room.ranking ≡ l.initial.self.room.ranking;
       memory : HasMemoryFor l.self rest;
-      places : vec_len l.answers + length rest ≤ vec_capacity l.answers
+      places : vec_len l.answers + length rest ≤ vec_capacity l.answers;
     }
