@@ -33,8 +33,8 @@ fn is_collecting<T>(call: &Call<T>) -> bool
 
 impl RowLists {
     // One for each of the calls that collect.
-    pub(crate) fn for_calls<T>(heap: Global, calls: &Vec<Call<T>>) -> Result<RowLists, AllocError>
-        ensures { IfOk result (λ kept. collectings_in calls.now.items ≤ kept) }
+    pub(crate) fn for_calls<T>(heap: Global, calls: &[Call<T>]) -> Result<RowLists, AllocError>
+        ensures { IfOk result (λ kept. collectings_in calls.now ≤ kept) }
     {
         let mut kept = RowLists {
             lists: Vec::new(heap),

@@ -31,7 +31,7 @@ fn place_of(claims: &[Claim], numbers: &ClaimNumbers) -> Option<usize>
 }
 
 impl Purse {
-    pub(crate) fn of(claims: Vec<Claim>) -> Purse
+    pub(crate) fn new(claims: Vec<Claim>) -> Purse
         ensures numbers { result.numbers ≡ map claim_numbers claims.items }
         ensures places { result.places ≡ vec_capacity claims - vec_len claims }
     {

@@ -53,10 +53,10 @@ where
     ensures { MatchResult result (λ f. RunAsModelled (world_of M.Market.meaning S.IntervalSource.meaning (R.Ranking.ahead handed.ranking)) M.Market.position S.IntervalSource.position handed f) (λ h. HandedBack handed h) }
 {
     let mut handed = handed;
-    let Ok(memory) = take_memory(heap, &handed.calls, &mut handed.purse) else {
+    let Ok(Memory { lists, mut answers }) = take_memory(heap, &handed.calls, &mut handed.purse)
+    else {
         return Err(handed);
     };
-    let Memory { lists, mut answers } = memory;
     let Handed {
         number,
         market,
@@ -68,7 +68,7 @@ where
     let room = Room::new(number, market, ranking, source);
     let mut session = Session {
         room,
-        purse: Purse::of(purse),
+        purse: Purse::new(purse),
         lists,
     };
     session.play(calls, &mut answers);

@@ -18,8 +18,8 @@ returns g c =
     let w = at h.ranking in
     let calls = vec_items h.calls in
     let first = at_first g.M.Market.position g.S.IntervalSource.position h in
-    let made = session_of (state_of g.M.Market.position g.S.IntervalSource.position c.new-room.result) c.of.result.numbers in
-    let starts = session_is _ c.of.result.numbers first c.new-room.ensures.state (c.of.ensures.numbers ∙ ap (map claim_numbers) c.take_memory.ensures.claims) in
+    let made = session_of (state_of g.M.Market.position g.S.IntervalSource.position c.new-room.result) c.new.result.numbers in
+    let starts = session_is _ c.new.result.numbers first c.new-room.ensures.state (c.new.ensures.numbers ∙ ap (map claim_numbers) c.take_memory.ensures.claims) in
     let ended = c.play.ensures.session ∙ ap (λ r. session_end (at r) made calls) c.new-room.ensures.ranking ∙ ap (λ s. session_end w s calls) starts in
     record {
       answers =

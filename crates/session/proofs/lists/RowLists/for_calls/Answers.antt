@@ -1,4 +1,4 @@
-use Rattle.std.proofs.Common.{◌≡◌, ◌<◌, Bool, cond, length, get_or, vec_items, sym, ap, ◌∙◌, arith}
+use Rattle.std.proofs.Common.{◌≡◌, Bool, cond, sym, ap, ◌∙◌, arith}
 use Rattle.session.specs.Memory.{lists_for}
 use Rattle.session.proofs.MemoryTaken.{collectings_more}
 use Rattle.session.proofs.lists.RowLists.for_calls.Goals.{then-is_collecting+in_ok-add, else-is_collecting}
@@ -7,12 +7,8 @@ use Rattle.session.proofs.lists.RowLists.for_calls.Goals as goal
 pub loop-call-preserved : goal.loop-call-preserved
 loop-call-preserved g c =
     let d = c.call-item.result in
-    let within = c.loop-call-test.true in
-    let all = c.deref-call-items.ensures.value in
-    let is : d ≡ get_or (vec_items c.args.calls.now) c.loop-call.call-index d = rw all at c.call-item.is in
-    let here : c.loop-call.call-index < length (vec_items c.args.calls.now) = rw all at within in
-    let more = collectings_more (vec_items c.args.calls.now) c.loop-call.call-index d here in
-    let wants = ap (λ x. lists_for x) is in
+    let more = collectings_more c.args.calls.now c.loop-call.call-index d c.loop-call-test.true in
+    let wants = ap (λ x. lists_for x) c.call-item.is in
     let few = c.loop-call.invariant in
     elim c.if-is_collecting.branch [
       | then-is_collecting+in_ok-add w ↦
