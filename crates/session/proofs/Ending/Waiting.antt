@@ -1,6 +1,7 @@
 -- The auctions that wait, by their numbers: what one more, and one fewer, does to the others.
 use Rattle.std.proofs.Common.{◌≡◌, ℕ, ◌+◌, Bool, true, false, cond, eqb, List, [], ◌∷◌, ◌++◌, length, Some, None, Option, sym, refl, ap, ◌∙◌, arith}
 use Rattle.std.proofs.lemmas.Bool.Decides.{nat_tests}
+use Rattle.std.proofs.lemmas.List.{length_push}
 use Rattle.allocation.specs.declared.cause.EndCause.{EndCause}
 use Rattle.room.specs.State.{OpenAuction, EndedAuction, closed, is_number, numbered, without_number}
 use Rattle.room.proofs.Tests.{none_some, true_false}
@@ -101,10 +102,6 @@ once_closed c n None es h k = k
 once_closed c n (Some a) es h k = once_other n es (as_ended c a) h k
 
 -- how many wait
-length_push : (es : List EndedAuction) (e : EndedAuction) → length (es ++ e ∷ []) ≡ length es + 1
-length_push [] e = refl
-length_push (x ∷ xs) e = let again = length_push xs e in omega arith
-
 without_length_at : (b : Bool) (n : ℕ) (x e : EndedAuction) (xs : List EndedAuction) → (numbered n xs ≡ Some e → length (without_number n xs) + 1 ≡ length xs) → cond b (Some x) (numbered n xs) ≡ Some e → length (cond b xs (x ∷ without_number n xs)) + 1 ≡ length (x ∷ xs)
 without_length_at true n x e xs again h = omega arith
 without_length_at false n x e xs again h = let less = again h in omega arith
