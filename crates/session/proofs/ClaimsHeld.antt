@@ -1,26 +1,26 @@
 -- Finding a claim in a purse: the first of its numbers, and the others without it.
 use Rattle.std.proofs.Common.{◌≡◌, ℕ, zero, suc, ◌<◌, ◌≤◌, Bool, true, false, cond, not, ◌||◌, eqb, List, [], ◌∷◌, map, length, get_or, Some, None, sym, refl, ap, ◌∙◌, le_of_suc-le-suc, not-suc-le-zero, nat_lt, arith}
+use Rattle.std.proofs.lemmas.Bool.{and_parts, eqb-true, not-true, or_parts}
 use Rattle.std.specs.List.{position, position_or_len, remove}
 use Rattle.std.proofs.lemmas.Bool.Decides.{nat_tests}
 use Rattle.std.proofs.lemmas.List.Quantifiers.{position-Some}
 use Rattle.std.proofs.lemmas.List.Sums.{prefix_len_passes}
 use Rattle.room.specs.declared.answers.ClaimNumbers.{ClaimNumbers}
 use Rattle.session.specs.Sessions.{same_claim, holds, without_claim}
-use Rattle.room.proofs.Tests.{left_true, right_true, or_false_left, or_false_right}
 
 -- claims of the same numbers are equal as numbers
 pub same_is : (a b : ClaimNumbers) → same_claim a b ≡ true → a ≡ b
 same_is a b h =
-    let room : eqb a.room b.room ≡ true = left_true (eqb a.room b.room) (eqb a.auction b.auction) h in
-    let auction : eqb a.auction b.auction ≡ true = right_true (eqb a.room b.room) (eqb a.auction b.auction) h in
-    let r : a.room ≡ b.room = grind (arith, nat_tests) in
-    let n : a.auction ≡ b.auction = grind (arith, nat_tests) in
-    λ i. record { room = r i; auction = n i }
+    let both = and_parts (eqb a.room b.room) (eqb a.auction b.auction) h in
+    let room = eqb-true a.room b.room both.0 in
+    let auction = eqb-true a.auction b.auction both.1 in
+    λ i. record { room = room i; auction = auction i }
 
 pub without_none : (c : ClaimNumbers) (xs : List ClaimNumbers) → holds c xs ≡ false → without_claim c xs ≡ xs
 without_none c [] h = refl
 without_none c (x ∷ xs) h =
-    ap (λ (b : Bool). cond b xs (x ∷ without_claim c xs)) (or_false_left (same_claim x c) (holds c xs) h) ∙ ap (λ l. x ∷ l) (without_none c xs (or_false_right (same_claim x c) (holds c xs) h))
+    let neither = or_parts (same_claim x c) (holds c xs) h in
+    ap (λ (b : Bool). cond b xs (x ∷ without_claim c xs)) neither.0 ∙ ap (λ l. x ∷ l) (without_none c xs neither.1)
 
 module _ {X : Type 0} (f : X → ClaimNumbers) (c : ClaimNumbers) where
   abbrev is_it : X → Bool
@@ -42,10 +42,6 @@ module _ {X : Type 0} (f : X → ClaimNumbers) (c : ClaimNumbers) where
       let rest = first_held xs i d (le_of_suc-le-suc l) k (λ j m. h (suc j) (omega arith)) in
       (ap (λ (b : Bool). b || holds c (map f xs)) here ∙ rest.0, ap (λ l. f x ∷ l) rest.1 ∙ sym (ap (λ (b : Bool). cond b (map f xs) (f x ∷ without_claim c (map f xs))) here), rest.2)
 
-  not_true : (b : Bool) → not b ≡ true → b ≡ false
-  not_true true h = sym h
-  not_true false h = refl
-
   beyond : (a b : ℕ) → cond (nat_lt a b) (Some a) None ≡ None → b ≤ a
   beyond a b h = grind (arith, nat_tests)
 
@@ -53,7 +49,7 @@ module _ {X : Type 0} (f : X → ClaimNumbers) (c : ClaimNumbers) where
   none_at [] h = refl
   none_at (x ∷ xs) h =
       let long = beyond (position_or_len is_it (x ∷ xs)) (length (x ∷ xs)) h in
-      none_held (x ∷ xs) x (λ k l. not_true (is_it (get_or (x ∷ xs) k x)) (prefix_len_passes (λ y. not (is_it y)) (x ∷ xs) k x (omega arith)))
+      none_held (x ∷ xs) x (λ k l. not-true (is_it (get_or (x ∷ xs) k x)) (prefix_len_passes (λ y. not (is_it y)) (x ∷ xs) k x (omega arith)))
 
   -- what is taken out of a purse of these numbers, and what is left
   pub taken : (xs : List X) (purse : List ClaimNumbers) (i : ℕ) (x : X) → map f xs ≡ purse → Some i ≡ position is_it xs → x ≡ get_or xs i x

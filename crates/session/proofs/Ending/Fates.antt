@@ -1,32 +1,27 @@
 -- What a call does to the auction that is open when it comes: it ends exactly if the call brings one of its causes, for
 -- the first of them, and otherwise stays open; either way what the history then tells of it is what the room holds.
-use Rattle.std.proofs.Common.{◌≡◌, ◌⊎◌, inl, inr, ℕ, ◌+◌, ◌≤◌, Bool, true, false, cond, not, ◌&&◌, eqb, leb, List, [], ◌∷◌, ◌++◌, is_some, Some, None, Option, sym, refl, ap, ◌∙◌, subst}
+use Rattle.std.proofs.Common.{◌≡◌, ◌⊎◌, inl, inr, ℕ, ◌≤◌, Bool, true, false, cond, not, ◌&&◌, eqb, leb, List, [], ◌∷◌, ◌++◌, is_some, Some, None, Option, sym, refl, ap, ◌∙◌, subst}
+use Rattle.std.proofs.lemmas.Bool.{and_from, and_left, and_right}
 use Rattle.market.specs.declared.range.TurnedQuote.{TurnedQuote}
 use Rattle.market.specs.Range.{turned_quote}
 use Rattle.allocation.specs.declared.cause.EndCause.{EndCause}
 use Rattle.allocation.specs.declared.cause.EndCause.TheVariants.{NextAuction, FloorAboveInitiating, FloorAboveResponse, FloorAboveStop, PlainBelowFloor, ContraBelowGuarantee, Halt as Halted, Deadline}
 use Rattle.allocation.specs.declared.order.PairedOrder.{PairedOrder}
 use Rattle.allocation.specs.Auction.{told_of}
-use Rattle.allocation.specs.declared.fill.FillRow.{FillRow}
-use Rattle.market.specs.Range.{RangePrices}
-use Rattle.room.specs.declared.answers.ClaimNumbers.{ClaimNumbers}
-use Rattle.room.specs.declared.answers.Collection.{Collection}
 use Rattle.room.specs.declared.answers.StoredTerms.{StoredTerms}
-use Rattle.room.specs.declared.requests.OpeningRequest.{OpeningRequest}
 use Rattle.room.specs.Clock.{due}
-use Rattle.room.specs.Openings.{opened_with}
-use Rattle.room.specs.State.{OpenAuction, EndedAuction, RoomState, at_time, at_position, with_halted, with_current, with_waiting, ended, closed, is_number, numbered, without_number}
+use Rattle.room.specs.State.{OpenAuction, EndedAuction, RoomState, at_time, at_position, with_halted, with_current, ended, closed, is_number, numbered, without_number}
 use Rattle.room.specs.Ticks.{shown_above, shown_below, above_response, above_stop, ends_for, tick_cause, ticked_for, ticked, at_floor, floor_now}
 use Rattle.room.specs.World.{World}
 use Rattle.session.specs.declared.calls.Call.{Call}
-use Rattle.session.specs.declared.calls.Call.TheVariants.{Tick, Halt, Collect}
+use Rattle.session.specs.declared.calls.Call.TheVariants.{Tick, Halt}
 use Rattle.session.specs.History.{deadline_of, guarantee_of, is_open, ends_at, opens, collects, keeps_open, ticked_at, another_opened, opened_number, told_terms, is_accepted, is_collected, is_same, claimed, tick_in, is_halt, plain_below, stood_in, stood_after, stood_answered, shown_to, market_at, position_then, floor_of, is_above, is_below, stop_passed, above_one, deadline_reached, floor_above_initiating, floor_above_response, floor_above_stop, contra_below_guarantee, plain_response_below_floor, halt_accepted, first_cause, cause_by, cause_at}
-use Rattle.session.specs.Runs.{Answer, Opened, Stored, Accepted, Collected, Moment}
+use Rattle.session.specs.Runs.{Answer, Stored, Accepted, Moment}
 use Rattle.session.proofs.Ending.Elsewhere.{did_elsewhere, not_opened, not_collected}
 use Rattle.session.proofs.Ending.Lives.{Stepped, kept, expired, Tells, Alive, Over, opening_kept, ended_kept, ended_now, cause_now, collected_kept, floor_kept, floor_moved, stood_open, stood_quiet, above_is, below_is as below_shown, stop_is, above_one_is}
 use Rattle.session.proofs.Ending.Shapes.{Did, idle, opened, stored, ticks, halts, collected, SameButResponses, Quiet, OpenedHere, CollectedHere, collected_or_not}
 use Rattle.room.proofs.Sound.{Sound, tick_sound}
-use Rattle.room.proofs.Tests.{none_some, and_false_left, and_false_right, both_true}
+use Rattle.room.proofs.Tests.{none_some}
 use Rattle.session.proofs.Ending.Waiting.{Once, as_ended, numbered_new, once_new, numbered_without_other}
 
 -- The first cause of eight, in the order T, A, B, C, D, F, E, H.
@@ -141,7 +136,7 @@ module _ {P T F Q : Type 0} (w : World P T F Q) (p : P) (q : Q) where
         → first_cause w p q n live.facts past m ≡ Some c → Tells w p q n (m ∷ past) live.facts b.values → Fate n past m
     ends_now c b h k o x i z e f t =
         let caused = cause_by_facts ∙ f in
-        let ended_here : ends_at n m ≡ true = both_true (is_open n m.before) _ h (ap not k) in
+        let ended_here : ends_at n m ≡ true = and_from (is_open n m.before) _ h (ap not k) in
         ends (record {
           as_it_waits = as_ended c b;
           caused = caused;
@@ -155,7 +150,7 @@ module _ {P T F Q : Type 0} (w : World P T F Q) (p : P) (q : Q) where
         → numbered n m.after.waiting ≡ None → b.deadline ≡ a.deadline → first_cause w p q n live.facts past m ≡ None → Tells w p q n (m ∷ past) live.facts b.values → Fate n past m
     stays_now b h e i o x z d f t =
         let still : is_open n m.after ≡ true = ap (is_number n) e ∙ i in
-        stays b (cause_by_facts ∙ f) e i z (still_alive b o x (and_false_right (is_open n m.before) _ (ap not still)) d t)
+        stays b (cause_by_facts ∙ f) e i z (still_alive b o x (and_right (is_open n m.before) _ (ap not still)) d t)
 
     -- the deadline is not reached
     not_yet : (t : ℕ) → m.stepped ≡ at_time t m.before → m.before.current ≡ Some a → due t m.before.current ≡ false → leb (deadline_of live.facts) m.stepped.time ≡ false
@@ -189,8 +184,8 @@ module _ {P T F Q : Type 0} (w : World P T F Q) (p : P) (q : Q) where
         let now_once = ap (λ es. numbered n (without_number n es)) waits_so ∙ once_new n m.before.waiting (as_ended Deadline a) z i in
         let reached : leb (deadline_of live.facts) m.stepped.time ≡ true = ap (λ (x : RoomState P Q). leb (deadline_of live.facts) x.time) e ∙ ap (λ k. leb k t) (sym live.deadline_is) ∙ l in
         let caused : cause_at w p q n past m ≡ Some Deadline = cause_by_facts ∙ deadline_first tT tA tB tC tD tF tE tH reached in
-        let ended_here : ends_at n m ≡ true = both_true (is_open n m.before) _ open_before (ap not rest.still_closed) in
-        let floor_stays : keeps_open n m ≡ false = and_false_right (is_open n m.before) _ (and_false_left (is_open n m.after) _ rest.still_closed) in
+        let ended_here : ends_at n m ≡ true = and_from (is_open n m.before) _ open_before (ap not rest.still_closed) in
+        let floor_stays : keeps_open n m ≡ false = and_right (is_open n m.before) _ (and_left (is_open n m.after) _ rest.still_closed) in
         record {
           as_it_waits = as_ended Deadline a;
           caused = caused;
@@ -219,7 +214,7 @@ module _ {P T F Q : Type 0} (w : World P T F Q) (p : P) (q : Q) where
       none_then = ap (numbered n) waiting_then ∙ z
 
       no_tick : (is_accepted m.answer && is_some (tick_in m.call)) ≡ false → keeps_open n m ≡ false
-      no_tick h = and_false_right (is_open n m.before) _ (and_false_right (is_open n m.after) _ h)
+      no_tick h = and_right (is_open n m.before) _ (and_right (is_open n m.after) _ h)
 
       -- a call that brings nothing
       fate_idle : (b : Bool) → m.after ≡ with_halted b m.stepped → Quiet m.call m.answer → Did w m → Fate n past m
@@ -228,7 +223,7 @@ module _ {P T F Q : Type 0} (w : World P T F Q) (p : P) (q : Q) where
           (ap (λ (x : RoomState P Q). numbered n x.waiting) f ∙ none_then) refl
           (none_of tT tA (ticked_at m) _ _ _ _ tE tH (not_yet t e c d) (ap is_some k.opens_none)
           k.ticks_none
-          (and_false_left (is_some (told_terms m.answer)) _ (ap is_some k.stores_none)) k.halts_none)
+          (and_left (is_some (told_terms m.answer)) _ (ap is_some k.stores_none)) k.halts_none)
           (tells_quiet k.stores_none (no_tick k.ticks_none))
 
       -- another opening is accepted
@@ -241,7 +236,7 @@ module _ {P T F Q : Type 0} (w : World P T F Q) (p : P) (q : Q) where
           ends_now NextAuction a open_before shut unopened (not_collected w n m did none_then) i z
           (ap (λ (v : RoomState P Q). v.waiting) f ∙ ap (λ k. closed NextAuction k m.stepped.waiting) current_then ∙ ap (λ es. es ++ as_ended NextAuction a ∷ []) waiting_then)
           (next_first tT tA tB tC tD tF tE tH (not_yet t e c d) (ap (λ (k : Answer F). is_some (opened_number k)) y))
-          (tells_quiet (ap (λ (k : Answer F). told_terms k) y) (and_false_right (is_open n m.before) _ (and_false_left (is_open n m.after) _ shut)))
+          (tells_quiet (ap (λ (k : Answer F). told_terms k) y) (and_right (is_open n m.before) _ (and_left (is_open n m.after) _ shut)))
 
       -- a response, a change or a withdrawal is accepted
       module _ (b : OpenAuction) (x : StoredTerms) (y : m.answer ≡ Stored x) (same : SameButResponses a b)
@@ -346,7 +341,7 @@ module _ {P T F Q : Type 0} (w : World P T F Q) (p : P) (q : Q) where
         tells_refloored : tick_cause a.values quote_now ≡ None → is_open n m.after ≡ true → Tells w p q n (m ∷ past) live.facts refloored.values
         tells_refloored h k =
             let was = live.tells in
-            let keeps : keeps_open n m ≡ true = both_true (is_open n m.before) _ open_before (both_true (is_open n m.after) _ k was_ticked) in
+            let keeps : keeps_open n m ≡ true = and_from (is_open n m.before) _ open_before (and_from (is_open n m.after) _ k was_ticked) in
             record {
               order_is = was.order_is;
               initiating_is = was.initiating_is;
@@ -362,7 +357,7 @@ module _ {P T F Q : Type 0} (w : World P T F Q) (p : P) (q : Q) where
             ends_now h a open_before shut (not_opened w n m did o) (not_collected w n m did none_then) i z
             (ap (λ (v : RoomState P Q). v.waiting) f ∙ ap (λ v. closed h v m.stepped.waiting) current_then ∙ ap (λ es. es ++ as_ended h a ∷ []) waiting_then)
             (cause_is ∙ k)
-            (tells_quiet (ap (λ (v : Answer F). told_terms v) y) (and_false_right (is_open n m.before) _ (and_false_left (is_open n m.after) _ shut)))
+            (tells_quiet (ap (λ (v : Answer F). told_terms v) y) (and_right (is_open n m.before) _ (and_left (is_open n m.after) _ shut)))
         fate_ticked None k f =
             let here : m.after.current ≡ Some refloored = ap (λ (v : RoomState P Q). v.current) f in
             stays_now refloored open_before here i (not_opened w n m did o) (not_collected w n m did none_then)

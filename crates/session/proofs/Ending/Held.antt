@@ -1,29 +1,27 @@
 -- When an auction ends: what holds of a room and its history at every moment of a run, and the laws that follow from it.
-use Rattle.std.proofs.Common.{◌≡◌, ◌⊎◌, inl, inr, ℕ, ◌+◌, ◌≤◌, Bool, true, false, cond, not, ◌&&◌, eqb, leb, List, [], ◌∷◌, is_some, Some, None, Ok, Option, Result, sym, refl, ap, ◌∙◌, arith}
-use lib.Signed.{lt_z}
+use Rattle.std.proofs.Common.{◌≡◌, ◌⊎◌, inl, inr, ℕ, ◌+◌, ◌≤◌, Bool, true, false, cond, not, ◌&&◌, eqb, List, [], ◌∷◌, is_some, Some, None, Option, Result, sym, refl, ap, ◌∙◌, arith}
+use Rattle.std.proofs.lemmas.Bool.{and_left}
 use Rattle.std.proofs.lemmas.Bool.Decides.{nat_tests as tests}
 use Rattle.market.specs.declared.refusal.RangeRefusal.{RangeRefusal}
 use Rattle.market.specs.Range.{RangePrices, permitted}
-use Rattle.market.specs.Turned.{turned}
 use Rattle.interval.specs.Source.{WithinLimits}
 use Rattle.allocation.specs.declared.cause.EndCause.TheVariants.{NextAuction}
 use Rattle.allocation.specs.declared.order.PairedOrder.{PairedOrder}
 use Rattle.room.specs.Clock.{due}
-use Rattle.room.specs.Openings.{opened_with, new_auction}
+use Rattle.room.specs.Openings.{new_auction}
 use Rattle.room.specs.State.{OpenAuction, EndedAuction, RoomState, new_room, numbered, without_number}
 use Rattle.room.specs.World.{World}
 use Rattle.session.specs.declared.calls.Call.{Call}
-use Rattle.session.specs.declared.calls.Call.TheVariants.{Open}
 use Rattle.session.specs.Ending.{openings, collectings, held_in}
 use Rattle.session.specs.History.{OpeningFacts, is_open, ends_at, opens, collects, opened_number, is_accepted, is_collected, is_same, claimed, tick_in, order_in, times_ended, was_collected, stood_in, opening_of, facts_then, facts_by, floor_of, market_at, source_at, position_then}
-use Rattle.session.specs.Runs.{Answer, Opened, Moment, given_time, input_refusal, moment, step}
+use Rattle.session.specs.Runs.{Answer, Moment, given_time, input_refusal, moment, step}
 use Rattle.session.proofs.Ending.Counted.{Counted, same, more, fewer, counted_by, position_by, stepped_held}
 use Rattle.session.proofs.Ending.Elsewhere.{Elsewhere, stepped_elsewhere, both_elsewhere, did_elsewhere, not_opened, not_collected}
 use Rattle.session.proofs.Ending.Fates.{Fate, stays, ends, fate}
 use Rattle.session.proofs.Ending.Lives.{Stepped, stepped_by, stepped_opened, stepped_position, stepped_source, stepped_number, stepped_not_due, Alive, Over, Life, unborn, alive, waiting, gone, opening_kept, ended_kept, collected_kept, collected_now, floor_kept, stood_closed, over_kept}
 use Rattle.session.proofs.Ending.Shapes.{Did, OpenedHere, CollectedHere, opened_or_not, collected_or_not, did}
 use Rattle.room.proofs.Sound.{new_sound, permitted_ordered}
-use Rattle.room.proofs.Tests.{true_false, and_false_left}
+use Rattle.room.proofs.Tests.{true_false}
 use Rattle.session.proofs.Ending.Waiting.{Once, closed_other}
 
 module _ {P T F Q : Type 0} (w : World P T F Q) (drawn : WithinLimits w.source) (number : ℕ) (p : P) (q : Q) where
@@ -75,7 +73,7 @@ module _ {P T F Q : Type 0} (w : World P T F Q) (drawn : WithinLimits w.source) 
         both_elsewhere n m.before m.stepped m.after first (did_elsewhere w n m business first.still_closed o c)
 
     pub not_ending : (n : ℕ) → is_open n m.before ≡ false → ends_at n m ≡ false
-    not_ending n k = and_false_left (is_open n m.before) (not (is_open n m.after)) k
+    not_ending n k = and_left (is_open n m.before) (not (is_open n m.after)) k
 
     shut_then : (n : ℕ) → is_open n m.before ≡ false → is_open n m.stepped ≡ false
     shut_then n k = (stepped_elsewhere n m.before m.stepped clock k).still_closed
@@ -131,7 +129,7 @@ module _ {P T F Q : Type 0} (w : World P T F Q) (drawn : WithinLimits w.source) 
         tells = record {
           order_is = refl;
           initiating_is = refl;
-          floor_is = sym (floor_kept w p q n past m new_facts (and_false_left (is_open n m.before) _ k) ∙ fl new_facts);
+          floor_is = sym (floor_kept w p q n past m new_facts (and_left (is_open n m.before) _ k) ∙ fl new_facts);
           stood_is = sym (stood_closed w p q n past m (shut_then n k) ∙ st);
           sound = new_sound order d.range d.sized (permitted_ordered order.side order.limit (w.market.shows m.stepped.position) d.range d.permitted_then) d.guaranteed;
         };
@@ -162,7 +160,7 @@ module _ {P T F Q : Type 0} (w : World P T F Q) (drawn : WithinLimits w.source) 
         let none = not_collected w n m business (none_stepped n k v) in
         let away = aside n k e none in
         unborn (opening_kept w p q n past m e ∙ o) away.still_closed (away.same_waiting ∙ v) (ended_kept w p q n past m (not_ending n k) ∙ te) (collected_kept w p q n past m none ∙ wc)
-        (no_number n tally e up) (λ f. floor_kept w p q n past m f (and_false_left (is_open n m.before) _ k) ∙ fl f) (stood_closed w p q n past m (shut_then n k) ∙ st)
+        (no_number n tally e up) (λ f. floor_kept w p q n past m f (and_left (is_open n m.before) _ k) ∙ fl f) (stood_closed w p q n past m (shut_then n k) ∙ st)
 
     -- An auction that waits.
     collected_life : (n : ℕ) → CollectedHere w m ⊎ (is_collected m.answer ≡ false) → collects n m ≡ true → Once n m.stepped.waiting → is_open n m.before ≡ false → is_open n m.stepped ≡ false → n ≤ m.before.opened → times_ended n past ≡ 1 → Life w p q n (m ∷ past) m.after

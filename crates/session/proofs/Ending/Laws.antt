@@ -1,5 +1,6 @@
 -- The laws on when an auction ends, from what holds at every moment of a run.
 use Rattle.std.proofs.Common.{◌≡◌, ◌⊎◌, inl, inr, ℕ, ◌+◌, ◌<◌, ◌≤◌, max, Bool, true, false, cond, not, ◌&&◌, eqb, ltb, leb, List, [], ◌∷◌, length, is_some, Some, None, Ok, Option, Result, sym, refl, ap, ◌∙◌, subst, arith}
+use Rattle.std.proofs.lemmas.Bool.{and_from, and_parts, and_right, not-true}
 use Rattle.std.proofs.lemmas.Bool.Decides.{nat_tests as tests}
 use Rattle.interval.specs.Source.{WithinLimits}
 use Rattle.allocation.specs.declared.cause.EndCause.TheVariants.{Deadline, Halt as Halted}
@@ -24,9 +25,9 @@ use Rattle.session.proofs.Ending.Counted.{Counted, same, more, fewer}
 use Rattle.session.proofs.Ending.Elsewhere.{stepped_elsewhere}
 use Rattle.session.proofs.Ending.Held.{Holds, holds_new, holds_after, clock_of, tally, earlier, fate_of, not_ending}
 use Rattle.session.proofs.Ending.Fates.{Fate, stays, ends, expired_ends}
-use Rattle.session.proofs.Ending.Lives.{Stepped, kept, expired, clocked_time, Alive, Over, Life, unborn, alive, waiting, gone, ended_kept}
+use Rattle.session.proofs.Ending.Lives.{Stepped, kept, expired, unstepped, clocked_time, Alive, Over, Life, unborn, alive, waiting, gone, ended_kept}
 use Rattle.session.proofs.Ending.Shapes.{OpenedHere, CollectedHere, opened_or_not, collected_or_not, did}
-use Rattle.room.proofs.Tests.{true_false, none_some, and_false_right, both_true, left_true, right_true}
+use Rattle.room.proofs.Tests.{true_false, none_some}
 
 -- the clock step done twice is the clock step
 max_again : (a t : ℕ) → max (max a t) t ≡ max a t
@@ -46,10 +47,6 @@ module _ {P Q : Type 0} where
   timed_again : {Y R : Type 0} (k : Option R) (s : RoomState P Q) (t : ℕ) (f : RoomState P Q → RoomState P Q × Result Y R) → timed k (clock_stepped k (Some t) s) t f ≡ timed k s t f
   timed_again None s t f = ap f (clocked_twice s t)
   timed_again (Some e) s t f = refl
-
-  unstepped : {R : Type 0} (k : Option R) (s : RoomState P Q) → clock_stepped k None s ≡ s
-  unstepped None s = refl
-  unstepped (Some e) s = refl
 
 -- a call does to the room as its clock step left it what it does to the room before
 business_after : {P T F Q : Type 0} (w : World P T F Q) (s : RoomState P Q) (c : Call T) → step w (clock_stepped (input_refusal {F = F} c) (given_time c) s) c ≡ step w s c
@@ -143,27 +140,23 @@ module _ {P T F Q : Type 0} (w : World P T F Q) (drawn : WithinLimits w.source) 
     soon_by n k x (waiting a z once y o v) = true_false (sym k ∙ y)
     soon_by n k x (gone z y o te wc) = true_false (sym k ∙ y)
 
-    not_false : (b : Bool) → not b ≡ true → b ≡ false
-    not_false true e = sym e
-    not_false false e = refl
-
     not_too_soon : NotByTimeTooSoon w number p q past m
-    not_too_soon n e = soon_by n (left_true (is_open n s) _ e) (not_false (is_open n m.stepped) (right_true (is_open n s) _ e)) (h.lives n)
+    not_too_soon n e = let shut = and_parts (is_open n s) _ e in soon_by n shut.0 (not-true (is_open n m.stepped) shut.1) (h.lives n)
 
     -- Ended, not vanished.
     waits_by : (n : ℕ) (v : RoomState P Q) (ms : List (Moment P T F Q)) → Life w p q n ms v → (not (is_open n v) && is_some (numbered n v.waiting)) ≡ (ltb 0 (times_ended n ms) && not (was_collected n ms))
     waits_by n v ms (unborn o x z te wc up fl st) =
-        and_false_right (not (is_open n v)) _ (ap is_some z) ∙ sym (ap (λ k. ltb 0 k && not (was_collected n ms)) te)
+        and_right (not (is_open n v)) _ (ap is_some z) ∙ sym (ap (λ k. ltb 0 k && not (was_collected n ms)) te)
     waits_by n v ms (alive a x i z o live) =
-        and_false_right (not (is_open n v)) _ (ap is_some z) ∙ sym (ap (λ k. ltb 0 k && not (was_collected n ms)) live.unended)
+        and_right (not (is_open n v)) _ (ap is_some z) ∙ sym (ap (λ k. ltb 0 k && not (was_collected n ms)) live.unended)
     waits_by n v ms (waiting e z once x o over) =
         ap (λ (b : Bool). not b && is_some (numbered n v.waiting)) x ∙ ap is_some z ∙ sym (ap (λ k. ltb 0 k && not (was_collected n ms)) over.ended_once ∙ ap not over.uncollected)
     waits_by n v ms (gone z x o te wc) =
-        and_false_right (not (is_open n v)) _ (ap is_some z) ∙ sym (ap (λ k. ltb 0 k && not (was_collected n ms)) te ∙ ap not wc)
+        and_right (not (is_open n v)) _ (ap is_some z) ∙ sym (ap (λ k. ltb 0 k && not (was_collected n ms)) te ∙ ap not wc)
 
     waits_alone : (n : ℕ) (v : RoomState P Q) (ms : List (Moment P T F Q)) → Life w p q n ms v → is_some (numbered n v.waiting) ≡ (not (is_open n v) && is_some (numbered n v.waiting))
     waits_alone n v ms (unborn o x z te wc up fl st) = sym (ap (λ (b : Bool). not b && is_some (numbered n v.waiting)) x)
-    waits_alone n v ms (alive a x i z o live) = ap is_some z ∙ sym (and_false_right (not (is_open n v)) _ (ap is_some z))
+    waits_alone n v ms (alive a x i z o live) = ap is_some z ∙ sym (and_right (not (is_open n v)) _ (ap is_some z))
     waits_alone n v ms (waiting e z once x o over) = sym (ap (λ (b : Bool). not b && is_some (numbered n v.waiting)) x)
     waits_alone n v ms (gone z x o te wc) = sym (ap (λ (b : Bool). not b && is_some (numbered n v.waiting)) x)
 
@@ -226,8 +219,8 @@ module _ {P T F Q : Type 0} (w : World P T F Q) (drawn : WithinLimits w.source) 
     -- For its causes and no others.
     caused_by : (n : ℕ) → is_open n s ≡ true → Fate w p q n past (moment w s c) → ends_at n (moment w s c) ≡ is_some (cause_at w p q n past (moment w s c))
     caused_by n k (stays a e f i z live) =
-        and_false_right (is_open n s) _ (ap not (ap (is_number n) f ∙ i)) ∙ sym (ap is_some e)
-    caused_by n k (ends e) = both_true (is_open n s) _ k (ap not e.shut) ∙ sym (ap is_some e.caused)
+        and_right (is_open n s) _ (ap not (ap (is_number n) f ∙ i)) ∙ sym (ap is_some e)
+    caused_by n k (ends e) = and_from (is_open n s) _ k (ap not e.shut) ∙ sym (ap is_some e.caused)
 
     caused_live : (n : ℕ) → is_open n s ≡ true → Life w p q n past s → ends_at n (moment w s c) ≡ is_some (cause_at w p q n past (moment w s c))
     caused_live n k (unborn o x v te wc up fl st) = true_false (sym k ∙ x)

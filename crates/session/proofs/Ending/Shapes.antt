@@ -1,6 +1,7 @@
 -- What a call does to a room, in few shapes: it leaves the auctions alone, opens one, stores, changes or withdraws a
 -- response, takes a tick, halts, or collects. Each with what the answer tells. And what the clock step before it does.
 use Rattle.std.proofs.Common.{◌≡◌, ◌⊎◌, inl, inr, ℕ, ◌+◌, Bool, true, false, cond, not, ◌&&◌, eqb, leb, List, [], ◌∷◌, ◌++◌, map, length, ℤ, is_some, Some, None, Ok, Err, Option, Result, sym, refl, ap, ◌∙◌, subst}
+use Rattle.std.proofs.lemmas.Bool.{and_from}
 use lib.Signed.{lt_z}
 use Rattle.std.proofs.lemmas.List.{map-append}
 use Rattle.market.specs.declared.refusal.RangeRefusal.{RangeRefusal}
@@ -34,10 +35,10 @@ use Rattle.session.specs.declared.calls.Call.{Call}
 use Rattle.session.specs.declared.calls.Call.TheVariants.{Open, Respond, Change, Withdraw, Tick, Halt, Resume, Clock, Look, Collect}
 use Rattle.session.specs.History.{opened_number, told_terms, is_accepted, is_collected, tick_in, is_halt, claimed, plain_below, stood_after, changed_then, withdrawn_then}
 use Rattle.session.specs.Runs.{Answer, Opened, Stored, Accepted, Looked, Collected, Refused, Moment, answered, answering, clock_stepped, moment}
-use Rattle.session.proofs.Ending.Lives.{plain_is}
+use Rattle.session.proofs.Ending.Lives.{plain_is, unstepped}
 use Rattle.room.proofs.Checked.{TermsInside, opening_sized, response_inside, change_inside}
 use Rattle.room.proofs.Sound.{Sound, each_push, each_changed, each_without, stood_sound, stored_may_stand}
-use Rattle.room.proofs.Tests.{refuse_none, unless_ok, and_then_ok, ok_err, both_true}
+use Rattle.room.proofs.Tests.{refuse_none, unless_ok, and_then_ok, ok_err}
 
 -- an answer that tells of no auction
 pub record Quiet {T F : Type 0} (c : Call T) (a : Answer F) : Type 0 where
@@ -221,7 +222,7 @@ module _ {P T F Q : Type 0} (w : World P T F Q) where
   response_sound a x i k h =
       let ok = stored_may_stand a.values.order.size a.values.floor a.values.initiating x.size (turned_in a x.price) h.sized h.in_order i.sized k in
       let good : response_ok a.values.order.size a.values.floor a.values.initiating (as_stored a x) ≡ true =
-      both_true (from_to 1 16 x.member) _ i.member_inside (both_true (from_to 1 4 x.own) _ i.own_inside ok) in
+      and_from (from_to 1 16 x.member) _ i.member_inside (and_from (from_to 1 4 x.own) _ i.own_inside ok) in
       stood_sound a.values (a.values.stood ++ as_stored a x ∷ []) h (each_push (response_ok a.values.order.size a.values.floor a.values.initiating) a.values.stood (as_stored a x) h.standing good)
 
   abbrev responding_moment : RoomState P Q → RoomState P Q → ResponseRequest → Result OpenAuction (Refusal F) → Moment P T F Q
@@ -333,10 +334,6 @@ module _ {P T F Q : Type 0} (w : World P T F Q) where
         waited = ap (λ (z : RoomState P Q). numbered c.auction z.waiting) h ∙ collect_ok s c n e k;
       })
   did_collecting s u c n (Err f) h k = idle s.halted (sym (ap (λ (z : RoomState P Q). with_halted s.halted z) h)) (refused_quiet (Collect c n) f)
-
-  unstepped : (k : Option (Refusal F)) (s : RoomState P Q) → clock_stepped k None s ≡ s
-  unstepped None s = refl
-  unstepped (Some e) s = refl
 
   looked_quiet : (v : _) → Quiet {T = T} {F = F} Look (Looked v)
   looked_quiet v = record { opens_none = refl; stores_none = refl; collects_none = refl; ticks_none = refl; halts_none = refl }
