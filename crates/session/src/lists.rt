@@ -1,6 +1,6 @@
 // The lists of rows that are kept for the collectings of a run.
 ghost use Rattle.std.specs.Prelude.{◌≡◌, ◌+◌, ◌≤◌, length, OnOk, IfOk};
-ghost use Rattle.session.specs.Memory.{is_collecting, collectings_in};
+ghost use Rattle.session.specs.Memory.{collectings_in};
 
 use crate::calls::Call;
 use allocation::fill::{FillRow, LEAST_ROWS};
@@ -25,12 +25,6 @@ impl Model for RowLists {
     ghost invariant = { λ kept. All TakesEveryRow kept.lists.items };
 }
 
-fn is_collecting<T>(call: &Call<T>) -> bool
-    ensures { result ≡ is_collecting call.now }
-{
-    matches!(call, Call::Collect { .. })
-}
-
 impl RowLists {
     // One for each of the calls that collect.
     pub(crate) fn for_calls<T>(heap: Global, calls: &[Call<T>]) -> Result<RowLists, AllocError>
@@ -40,7 +34,7 @@ impl RowLists {
             lists: Vec::new(heap),
         };
         for call in calls {
-            if is_collecting(call) {
+            if call.is_collecting() {
                 kept.add(heap)?;
             }
         }
