@@ -17,7 +17,7 @@ use Rattle.session.specs.Runs.{Answer, Collected, Refused, answered, step}
 use Rattle.session.specs.Sessions.{Session, session_of, session_after, session_answer, holds, purse_left, without_claim}
 use Rattle.session.proofs.ClaimsHeld.{without_none}
 use Rattle.session.proofs.SessionRuns.{session_is}
-use Rattle.room.proofs.Tests.{none_some, ok_err}
+use Rattle.room.proofs.Tests.{ok_err}
 
 module _ {P T F Q : Type 0} (w : World P T F Q) (s : RoomState P Q) (c : ClaimNumbers) where
   abbrev told_of : Result EndedAuction (Refusal F) → RoomState P Q × Result Collection (Refusal F)
@@ -69,15 +69,6 @@ gathered w s c n claim k rows new h e l =
     let count = told.1 in
     let fits = front.1 in
     (omega arith, told.0 ∙ ap (λ x. Collected k x) (sym front.0 ∙ ap (λ m. take m new) (sym count)))
-
--- the claim that was asked for is held, or none is
-pub held_one : (b : Bool) (x n : ClaimNumbers) → Some x ≡ cond b (Some n) None → (b ≡ true) × (x ≡ n)
-held_one true x n h = let same : x ≡ n = cc in (refl, same)
-held_one false x n h = none_some x (sym h)
-
-pub held_none : (b : Bool) (n : ClaimNumbers) → None ≡ cond b (Some n) None → b ≡ false
-held_none true n h = none_some n h
-held_none false n h = refl
 
 -- a list that is as long as is asked for, up to the length that every collecting wants
 pub as_long : (asked m : ℕ) (x : FillRow) → m ≡ min asked 129 → ltb (length (take m (replicate 129 x))) 129 ≡ ltb asked 129

@@ -35,6 +35,7 @@ use Rattle.session.specs.declared.calls.Call.{Call}
 use Rattle.session.specs.declared.calls.Call.TheVariants.{Open, Respond, Change, Withdraw, Tick, Halt, Resume, Clock, Look, Collect}
 use Rattle.session.specs.History.{opened_number, told_terms, is_accepted, is_collected, tick_in, is_halt, claimed, plain_below, stood_after, changed_then, withdrawn_then}
 use Rattle.session.specs.Runs.{Answer, Opened, Stored, Accepted, Looked, Collected, Refused, Moment, answered, answering, clock_stepped, moment}
+use Rattle.session.proofs.Choices.{cond_through}
 use Rattle.session.proofs.Ending.Lives.{plain_is, unstepped}
 use Rattle.room.proofs.Checked.{TermsInside, opening_sized, response_inside, change_inside}
 use Rattle.room.proofs.Sound.{Sound, each_push, each_changed, each_without, stood_sound, stored_may_stand}
@@ -187,21 +188,17 @@ module _ {P T F Q : Type 0} (w : World P T F Q) where
   did_clock s t (Some f) = idle s.halted refl (refused_quiet (Clock t) f)
 
   -- Responses. The table as told, with one changed, one withdrawn.
-  told_cond : (side : Side) (b : Bool) (xs ys : List Response) → map (response_told side) (cond b xs ys) ≡ cond b (map (response_told side) xs) (map (response_told side) ys)
-  told_cond side true xs ys = refl
-  told_cond side false xs ys = refl
-
   told_changed : (side : Side) (m o size : ℕ) (z : ℤ) (n : ℕ) (xs : List Response)
       → map (response_told side) (own_changed m o size z n xs) ≡ changed_then m o (record { price = turned side z; size = size }) (map (response_told side) xs)
   told_changed side m o size z n [] = refl
   told_changed side m o size z n (x ∷ xs) =
-      told_cond side (is_of m o x) (restored size z n x ∷ xs) (x ∷ own_changed m o size z n xs)
+      cond_through (map (response_told side)) (is_of m o x) (restored size z n x ∷ xs) (x ∷ own_changed m o size z n xs)
       ∙ ap (λ l. cond (is_of m o x) (response_told side (restored size z n x) ∷ map (response_told side) xs) (response_told side x ∷ l)) (told_changed side m o size z n xs)
 
   told_withdrawn : (side : Side) (m o : ℕ) (xs : List Response) → map (response_told side) (without_own m o xs) ≡ withdrawn_then m o (map (response_told side) xs)
   told_withdrawn side m o [] = refl
   told_withdrawn side m o (x ∷ xs) =
-      told_cond side (is_of m o x) xs (x ∷ without_own m o xs)
+      cond_through (map (response_told side)) (is_of m o x) xs (x ∷ without_own m o xs)
       ∙ ap (λ l. cond (is_of m o x) (map (response_told side) xs) (response_told side x ∷ l)) (told_withdrawn side m o xs)
 
   same_but : (a b : OpenAuction) → b.number ≡ a.number → b.deadline ≡ a.deadline → b.values.order ≡ a.values.order → b.values.floor ≡ a.values.floor → b.values.initiating ≡ a.values.initiating → SameButResponses a b

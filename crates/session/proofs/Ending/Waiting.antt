@@ -5,6 +5,7 @@ use Rattle.std.proofs.lemmas.List.{length_push}
 use Rattle.allocation.specs.declared.cause.EndCause.{EndCause}
 use Rattle.room.specs.State.{OpenAuction, EndedAuction, closed, is_number, numbered, without_number}
 use Rattle.room.proofs.Tests.{none_some, true_false}
+use Rattle.session.proofs.Choices.{cond_some_none}
 
 -- an auction as it waits
 abbrev pub as_ended : EndCause → OpenAuction → EndedAuction
@@ -18,10 +19,6 @@ Once n es = numbered n (without_number n es) ≡ None
 pub numbered_other : (n : ℕ) (es : List EndedAuction) (e : EndedAuction) → eqb e.number n ≡ false → numbered n (es ++ e ∷ []) ≡ numbered n es
 numbered_other n [] e h = ap (λ (b : Bool). cond b (Some e) None) h
 numbered_other n (x ∷ xs) e h = ap (λ o. cond (eqb x.number n) (Some x) o) (numbered_other n xs e h)
-
-cond_some_none : {X : Type 0} (b : Bool) (x : X) (o : Option X) → cond b (Some x) o ≡ None → (b ≡ false) × (o ≡ None)
-cond_some_none true x o h = none_some x (sym h)
-cond_some_none false x o h = (refl, h)
 
 -- the first of its number that waits
 pub numbered_new : (n : ℕ) (es : List EndedAuction) (e : EndedAuction) → numbered n es ≡ None → eqb e.number n ≡ true → numbered n (es ++ e ∷ []) ≡ Some e

@@ -8,12 +8,8 @@ use Rattle.allocation.specs.declared.response.Response.{Response}
 use Rattle.allocation.specs.Table.{is_of, restored, own_response, own_changed, without_own}
 use Rattle.room.specs.Responses.{}
 use Rattle.room.specs.State.{EndedAuction, numbered, without_number, used_by, one_more}
+use Rattle.session.proofs.Choices.{cond_through}
 use Rattle.session.proofs.Learning.Known.{unnumbered, own_rows, entry, own_count, counted, numbers, numbered_known, without_number_known}
-
--- A choice that goes through a function.
-pub cond_through : {X Y : Type 0} (f : X → Y) (b : Bool) (x y : X) → f (cond b x y) ≡ cond b (f x) (f y)
-cond_through f true x y = refl
-cond_through f false x y = refl
 
 -- One member's response is not another's.
 not_another : (m u k : ℕ) (b : Bool) → eqb m u ≡ false → eqb k u ≡ true → (eqb k m && b) ≡ false
