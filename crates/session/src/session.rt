@@ -115,8 +115,7 @@ impl<M: Market, R: Ranking, S: IntervalSource> Session<M, R, S> {
         ensures session { session_now M.Market.position S.IntervalSource.position self.new ≡ session_end (session_world M.Market.meaning S.IntervalSource.meaning R.Ranking.ahead self.old) (session_now M.Market.position S.IntervalSource.position self.old) calls.items }
     {
         for call in calls {
-            let answer = self.make_call(call);
-            answers.push_reserved(answer);
+            answers.push_reserved(self.make_call(call));
         }
     }
 }
