@@ -56,10 +56,8 @@ impl RowLists {
         ensures rows { result.items ≡ rows.now }
         ensures one { self.new + 1 ≡ self.old }
     {
-        let Some(mut list) = self.lists.pop() else {
-            unreachable()
-        };
-        let _ = list.extend_from_slice(rows);
+        let mut list = self.lists.pop().unwrap();
+        list.extend_from_slice(rows).unwrap();
         list
     }
 }
