@@ -1,5 +1,5 @@
 // A session in code: calls on a room, with a purse of claims.
-ghost use Rattle.std.specs.Prelude.{◌≡◌, ◌+◌, ◌≤◌, [], ◌∷◌, ◌++◌, map, vec_len, vec_capacity, MatchResult};
+ghost use Rattle.std.specs.Prelude.{◌≡◌, ◌+◌, ◌≤◌, [], ◌∷◌, ◌++◌, map, vec_len, vec_capacity};
 ghost use Rattle.session.specs.declared.calls.Call.TheVariants.{Open, Collect};
 ghost use Rattle.session.specs.Made.{HasMemoryFor, MadeAsModelled, session_now, session_world};
 ghost use Rattle.session.specs.Sessions.{session_answers, session_end};
