@@ -129,18 +129,20 @@ module _ {P T F Q : Type 0} (w : World P T F Q) (m : Moment P T F Q) where
   position_quiet true (Some t) x h = true_false h
   position_quiet false (Some t) x h = refl
 
+  unmoved : m.after.position ≡ m.stepped.position → (is_accepted m.answer && is_some (tick_in m.call)) ≡ false
+      → m.after.position ≡ position_then w.market.next (is_accepted m.answer) (tick_in m.call) m.stepped.position
+  unmoved e h = e ∙ sym (position_quiet (is_accepted m.answer) (tick_in m.call) m.stepped.position h)
+
   pub position_by : Did w m → m.after.position ≡ position_then w.market.next (is_accepted m.answer) (tick_in m.call) m.stepped.position
-  position_by (idle b e k) = ap (λ (v : RoomState P Q). v.position) e ∙ sym (position_quiet (is_accepted m.answer) (tick_in m.call) m.stepped.position k.ticks_none)
-  position_by (opened d) =
-      ap (λ (v : RoomState P Q). v.position) d.after_is ∙ sym (position_quiet (is_accepted m.answer) (tick_in m.call) m.stepped.position (ap (λ (v : Answer F). is_accepted v && is_some (tick_in m.call)) d.answer_is))
+  position_by (idle b e k) = unmoved (ap (λ (v : RoomState P Q). v.position) e) k.ticks_none
+  position_by (opened d) = unmoved (ap (λ (v : RoomState P Q). v.position) d.after_is) (ap (λ (v : Answer F). is_accepted v && is_some (tick_in m.call)) d.answer_is)
   position_by (stored a b t e y g like told sound k) =
-      ap (λ (v : RoomState P Q). v.position) k ∙ responded_position (plain_below a.values.order.side a.values.floor m.call) m.stepped b
-      ∙ sym (position_quiet (is_accepted m.answer) (tick_in m.call) m.stepped.position (ap (λ (v : Answer F). is_accepted v && is_some (tick_in m.call)) y))
+      unmoved (ap (λ (v : RoomState P Q). v.position) k ∙ responded_position (plain_below a.values.order.side a.values.floor m.call) m.stepped b)
+      (ap (λ (v : Answer F). is_accepted v && is_some (tick_in m.call)) y)
+  position_by (collected d) = unmoved (ap (λ (v : RoomState P Q). v.position) d.after_is) (ap (λ (v : Answer F). is_accepted v && is_some (tick_in m.call)) d.answer_is)
   position_by (ticks t x j y f) =
       ap (λ (v : RoomState P Q). v.position) f
       ∙ ticked_position m.stepped.current (w.market.shows (w.market.next m.stepped.position x)) (at_position (w.market.next m.stepped.position x) m.stepped)
       ∙ sym (ap (λ (v : Answer F). position_then w.market.next (is_accepted v) (tick_in m.call) m.stepped.position) y ∙ ap (λ (v : Call T). position_then w.market.next true (tick_in v) m.stepped.position) j)
   position_by (halts t j y f) =
       ap (λ (v : RoomState P Q). v.position) f ∙ sym (ap (λ (v : Call T). position_then w.market.next (is_accepted m.answer) (tick_in v) m.stepped.position) j)
-  position_by (collected d) =
-      ap (λ (v : RoomState P Q). v.position) d.after_is ∙ sym (position_quiet (is_accepted m.answer) (tick_in m.call) m.stepped.position (ap (λ (v : Answer F). is_accepted v && is_some (tick_in m.call)) d.answer_is))
