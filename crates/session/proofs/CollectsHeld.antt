@@ -1,5 +1,5 @@
 -- Collecting with a list of rows: when one list serves for another, and what the answer tells.
-use Rattle.std.proofs.Common.{◌≡◌, ℕ, ◌+◌, ◌<◌, ◌≤◌, Bool, true, false, cond, not, eqb, ltb, List, ◌++◌, length, take, drop, Some, None, Ok, Err, Result, sym, refl, ap, ◌∙◌, arith, length-append, length-drop}
+use Rattle.std.proofs.Common.{◌≡◌, ℕ, ◌+◌, ◌≤◌, Bool, true, false, cond, not, eqb, ltb, List, ◌++◌, length, take, drop, min, replicate, Some, None, Ok, Err, Result, sym, refl, ap, ◌∙◌, arith, length-append, length-take, length-drop}
 use Rattle.std.proofs.lemmas.List.{take_at}
 use Rattle.std.proofs.lemmas.Bool.Decides.{nat_tests}
 use Rattle.allocation.specs.declared.fill.FillRow.{FillRow}
@@ -15,8 +15,9 @@ use Rattle.room.specs.World.{World}
 use Rattle.session.specs.declared.calls.Call.TheVariants.{Collect}
 use Rattle.session.specs.Runs.{Answer, Collected, Refused, answered, step}
 use Rattle.session.specs.Sessions.{Session, session_of, session_after, session_answer, holds, purse_left, without_claim}
-use Rattle.session.proofs.ClaimsHeld.{none_held}
-use Rattle.room.proofs.Tests.{none_some, ok_err}
+use Rattle.session.proofs.ClaimsHeld.{without_none}
+use Rattle.session.proofs.SessionRuns.{session_is}
+use Rattle.room.proofs.Tests.{ok_err}
 
 module _ {P T F Q : Type 0} (w : World P T F Q) (s : RoomState P Q) (c : ClaimNumbers) where
   abbrev told_of : Result EndedAuction (Refusal F) → RoomState P Q × Result Collection (Refusal F)
@@ -69,44 +70,34 @@ gathered w s c n claim k rows new h e l =
     let fits = front.1 in
     (omega arith, told.0 ∙ ap (λ x. Collected k x) (sym front.0 ∙ ap (λ m. take m new) (sym count)))
 
--- the claim that was asked for is held, or none is
-pub held_one : (b : Bool) (x n : ClaimNumbers) → Some x ≡ cond b (Some n) None → (b ≡ true) × (x ≡ n)
-held_one true x n h = let same : x ≡ n = cc in (refl, same)
-held_one false x n h = none_some x (sym h)
+-- a list that is as long as is asked for, up to the length that every collecting wants
+pub as_long : (asked m : ℕ) (x : FillRow) → m ≡ min asked 129 → ltb (length (take m (replicate 129 x))) 129 ≡ ltb asked 129
+as_long asked m x e =
+    let long : length (take m (replicate 129 x)) ≡ min asked 129 = omega (arith, length-take m (replicate 129 x)) in
+    grind (arith, nat_tests)
 
-pub held_none : (b : Bool) (n : ClaimNumbers) → None ≡ cond b (Some n) None → b ≡ false
-held_none true n h = none_some n h
-held_none false n h = refl
-
--- too short, and long enough
-pub too_short : (n : ℕ) → n < 129 → ltb 0 129 ≡ ltb n 129
-too_short n h = grind (arith, nat_tests)
-
-pub long_enough : (n : ℕ) → 129 ≤ n → ltb 129 129 ≡ ltb n 129
-long_enough n h = grind (arith, nat_tests)
+-- so what is told of it are at most 129 rows
+pub at_most_all : (count m : ℕ) (x : FillRow) (rows : List FillRow) → length rows ≡ length (take m (replicate 129 x)) → length (take count rows) ≤ 129
+at_most_all count m x rows e = omega (arith, length-take count rows, length-take m (replicate 129 x))
 
 -- a collecting of a session
 module _ {P T F Q : Type 0} (w : World P T F Q) (s : RoomState P Q) (purse : List ClaimNumbers) (c : ClaimNumbers) (n : ℕ) where
-  pub made : (x : ClaimNumbers) (m : ℕ) → holds c purse ≡ true → x ≡ c → ltb m 129 ≡ ltb n 129
-      → ((step w s (Collect x m)).0 ≡ (session_after w (session_of s purse) (Collect c n)).room)
-      × (purse_left (step w s (Collect x m)).1 x (without_claim c purse) ≡ (session_after w (session_of s purse) (Collect c n)).purse)
-      × (Some (step w s (Collect x m)).1 ≡ session_answer w (session_of s purse) (Collect c n))
-  made x m h e l =
+  pub made : (x : ClaimNumbers) (m : ℕ) (after : RoomState P Q) (answer : Answer F) (left : List ClaimNumbers) → holds c purse ≡ true → x ≡ c → ltb m 129 ≡ ltb n 129
+      → after ≡ (step w s (Collect x m)).0 → answer ≡ (step w s (Collect x m)).1 → left ≡ purse_left answer x (without_claim c purse)
+      → (session_of after left ≡ session_after w (session_of s purse) (Collect c n)) × (Some answer ≡ session_answer w (session_of s purse) (Collect c n))
+  made x m after answer left h e l room told others =
       let is : step w s (Collect x m) ≡ step w s (Collect c n) = ap (λ y. step w s (Collect y m)) e ∙ serves w s c m n l in
-      let told : (step w s (Collect x m)).1 ≡ (step w s (Collect c n)).1 = ap (λ (y : RoomState P Q × Answer F). y.1) is in
-      let then : Session P Q = record { room = (step w s (Collect c n)).0; purse = purse_left (step w s (Collect c n)).1 c (without_claim c purse) } in (
-        ap (λ (y : RoomState P Q × Answer F). y.0) is ∙ sym (ap (λ (b : Bool). (cond b then (session_of s purse)).room) h),
-        ap (λ (a : Answer F). purse_left a x (without_claim c purse)) told ∙ ap (λ y. purse_left (step w s (Collect c n)).1 y (without_claim c purse)) e ∙ sym (ap (λ (b : Bool). (cond b then (session_of s purse)).purse) h),
-        ap Some told ∙ sym (ap (λ (b : Bool). cond b (Some (step w s (Collect c n)).1) None) h),
+      let same = told ∙ ap (λ (y : RoomState P Q × Answer F). y.1) is in
+      let then : Session P Q = record { room = (step w s (Collect c n)).0; purse = purse_left (step w s (Collect c n)).1 c (without_claim c purse) } in
+      let claims : left ≡ then.purse = others ∙ ap (λ (a : Answer F). purse_left a x (without_claim c purse)) same ∙ ap (λ y. purse_left (step w s (Collect c n)).1 y (without_claim c purse)) e in (
+        session_is after left then (room ∙ ap (λ (y : RoomState P Q × Answer F). y.0) is) claims ∙ sym (ap (λ (b : Bool). cond b then (session_of s purse)) h),
+        ap Some same ∙ sym (ap (λ (b : Bool). cond b (Some (step w s (Collect c n)).1) None) h),
       )
 
-  pub not_made : holds c purse ≡ false
-      → (s ≡ (session_after w (session_of s purse) (Collect c n)).room)
-      × (without_claim c purse ≡ (session_after w (session_of s purse) (Collect c n)).purse)
-      × (None ≡ session_answer w (session_of s purse) (Collect c n))
-  not_made h =
+  pub not_made : (left : List ClaimNumbers) → holds c purse ≡ false → left ≡ without_claim c purse
+      → (session_of s left ≡ session_after w (session_of s purse) (Collect c n)) × (None ≡ session_answer w (session_of s purse) (Collect c n))
+  not_made left h others =
       let then : Session P Q = record { room = (step w s (Collect c n)).0; purse = purse_left (step w s (Collect c n)).1 c (without_claim c purse) } in (
-        sym (ap (λ (b : Bool). (cond b then (session_of s purse)).room) h),
-        (none_held c purse h).all_others ∙ sym (ap (λ (b : Bool). (cond b then (session_of s purse)).purse) h),
+        ap (session_of s) (others ∙ without_none c purse h) ∙ sym (ap (λ (b : Bool). cond b then (session_of s purse)) h),
         sym (ap (λ (b : Bool). cond b (Some (step w s (Collect c n)).1) None) h),
       )

@@ -4,6 +4,7 @@ pub mod Learning
 pub mod Ending
 pub mod Sharing
 pub mod RunLaws
+mod Choices
 mod ClaimsHeld
 mod MemoryTaken
 mod CollectsHeld

@@ -8,10 +8,6 @@ use Rattle.session.specs.declared.calls.Call.{Call}
 use Rattle.session.specs.Runs.{Answer, Moment, step, run_from}
 use Rattle.session.specs.Sessions.{Session, is_made, session_of, purse_after, session_after, session_answer, session_answers, calls_made, session_end, given}
 
-pub nil_right : {X : Type 0} (xs : List X) → xs ++ [] ≡ xs
-nil_right [] = refl
-nil_right (x ∷ xs) = ap (λ l. x ∷ l) (nil_right xs)
-
 module _ {P T F Q : Type 0} (w : World P T F Q) where
   abbrev answers_of : List (Moment P T F Q) → List (Answer F)
   answers_of ms = map (λ (m : Moment P T F Q). m.answer) ms
@@ -43,16 +39,6 @@ module _ {P T F Q : Type 0} (w : World P T F Q) where
 
   pub one_ended : (s s' : Session P Q) (c : Call T) (cs cs' : List (Call T)) → s' ≡ session_after w s c → cs ≡ c ∷ cs' → session_end w s' cs' ≡ session_end w s cs
   one_ended s s' c cs cs' e took = ap (λ u. session_end w u cs') e ∙ ap (session_end w s) (sym took)
-
-  -- no call is left
-  pub all_answered : (done done' : List (Option (Answer F))) (s first : Session P Q) (cs all all' : List (Call T)) → cs ≡ [] → all ≡ all'
-      → done' ++ session_answers w s cs ≡ done ++ session_answers w first all → done' ≡ done ++ session_answers w first all'
-  all_answered done done' s first cs all all' none same h =
-      sym (nil_right done') ∙ ap (λ l. done' ++ session_answers w s l) (sym none) ∙ h ∙ ap (λ l. done ++ session_answers w first l) same
-
-  pub all_ended : (s first : Session P Q) (cs all all' : List (Call T)) → cs ≡ [] → all ≡ all'
-      → session_end w s cs ≡ session_end w first all → s ≡ session_end w first all'
-  all_ended s first cs all all' none same h = ap (session_end w s) (sym none) ∙ h ∙ ap (session_end w first) same
 
 -- Both parts of a session are those of another.
 pub session_is : {P Q : Type 0} (room : RoomState P Q) (purse : List ClaimNumbers) (s : Session P Q) → room ≡ s.room → purse ≡ s.purse → session_of room purse ≡ s

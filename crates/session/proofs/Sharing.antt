@@ -1,6 +1,6 @@
 -- How contracts are shared: the rows of an accepted collecting are a lawful fill list of the auction that its history
 -- tells of.
-use Rattle.std.proofs.Common.{◌≡◌, ℕ, List, [], length, ℤ, Some, sym, refl, ap, ◌∙◌, subst}
+use Rattle.std.proofs.Common.{◌≡◌, ◌⊎◌, inl, inr, ℕ, false, List, [], length, ℤ, Some, sym, refl, ap, ◌∙◌, subst}
 use Rattle.interval.specs.Source.{WithinLimits}
 use Rattle.allocation.proofs.FillProved.{fill_list_in_order}
 use Rattle.allocation.specs.declared.fill.FillRow.{FillRow}
@@ -21,7 +21,7 @@ use Rattle.session.specs.Sharing.{ToldFillLaws, SharedLawfully, CollectedLawfull
 use Rattle.session.proofs.Ending.Held.{Holds, holds_new}
 use Rattle.session.proofs.Ending.Laws.{throughout, waits_over}
 use Rattle.session.proofs.Ending.Lives.{Tells}
-use Rattle.session.proofs.Ending.Shapes.{Did, idle, opened, stored, ticks, halts, collected, did}
+use Rattle.session.proofs.Ending.Shapes.{CollectedHere, collected_or_not, did}
 use Rattle.room.proofs.Sound.{Sound}
 use Rattle.room.proofs.Tests.{true_false}
 
@@ -45,12 +45,14 @@ module _ {P T F Q : Type 0} (w : World P T F Q) (p : P) (q : Q) where
 
   module _ (drawn : WithinLimits w.source) (number : ℕ) (past : List (Moment P T F Q)) (s : RoomState P Q) (c : Call T) (h : Holds w drawn number p q past s) where
     -- what an accepted collecting answers
-    shared_by : Did w (moment w s c) → (room auction rows : ℕ) (k : Collection) (fs : List FillRow) → c ≡ Collect (record { room = room; auction = auction }) rows → (step w s c).1 ≡ Collected k fs
-        → SharedLawfully w p q auction past k fs
-    shared_by (collected claim rows x j u y f g) room auction long k fs e a =
-        let is : claim.auction ≡ auction = ap (λ (z : ClaimNumbers). z.auction) (let same : claim ≡ record { room = room; auction = auction } = cc in same) in
-        let at : numbered auction s.waiting ≡ Some x = ap (λ (z : RoomState P Q). numbered auction z.waiting) (sym u) ∙ ap (λ i. numbered i (moment w s c).stepped.waiting) (sym is) ∙ g in
+    shared_by : CollectedHere w (moment w s c) ⊎ (is_collected (step w s c).1 ≡ false) → (room auction rows : ℕ) (k : Collection) (fs : List FillRow)
+        → c ≡ Collect (record { room = room; auction = auction }) rows → (step w s c).1 ≡ Collected k fs → SharedLawfully w p q auction past k fs
+    shared_by (inl d) room auction long k fs e a =
+        let x = d.auction in
+        let is : d.claim.auction ≡ auction = ap (λ (z : ClaimNumbers). z.auction) (let same : d.claim ≡ record { room = room; auction = auction } = let j = d.call_is in cc in same) in
+        let at : numbered auction s.waiting ≡ Some x = ap (λ (z : RoomState P Q). numbered auction z.waiting) (sym d.no_clock_step) ∙ ap (λ i. numbered i (moment w s c).stepped.waiting) (sym is) ∙ d.waited in
         let over = waits_over w drawn number p q past s c h auction x at (h.lives auction) in
+        let y = d.answer_is in
         let wrote : fill_rows w x ≡ fs = cc in
         let told : record { count = length (fill_rows w x); cause = x.cause } ≡ k = cc in
         record {
@@ -59,14 +61,10 @@ module _ {P T F Q : Type 0} (w : World P T F Q) (p : P) (q : Q) where
           laws = subst (ToldFillLaws over.facts.order.side over.facts.order.size (floor_of w p q auction over.facts past) over.facts.range.initiating (stood_in auction past)) wrote (told_lawful auction past over.facts x over.tells);
           as_many_as_told = ap length (sym wrote) ∙ ap (λ (z : Collection). z.count) told;
         }
-    shared_by (idle b e i) room auction long k fs j a = true_false (sym (ap (λ (z : Answer F). is_collected z) a) ∙ i.collects_none)
-    shared_by (opened x r j y f g i z) room auction long k fs e a = true_false (sym (ap (λ (z : Answer F). is_collected z) a) ∙ ap (λ (z : Answer F). is_collected z) y)
-    shared_by (stored b d t x y g like told sound f) room auction long k fs e a = true_false (sym (ap (λ (z : Answer F). is_collected z) a) ∙ ap (λ (z : Answer F). is_collected z) y)
-    shared_by (ticks t x j y f) room auction long k fs e a = true_false (sym (ap (λ (z : Answer F). is_collected z) a) ∙ ap (λ (z : Answer F). is_collected z) y)
-    shared_by (halts t j y f) room auction long k fs e a = true_false (sym (ap (λ (z : Answer F). is_collected z) a) ∙ ap (λ (z : Answer F). is_collected z) y)
+    shared_by (inr none) room auction long k fs e a = true_false (sym (ap (λ (z : Answer F). is_collected z) a) ∙ none)
 
     collected_lawfully : CollectedLawfully w p q past (moment w s c)
-    collected_lawfully room auction long k fs e a = shared_by (did w s c) room auction long k fs e a
+    collected_lawfully room auction long k fs e a = shared_by (collected_or_not w (moment w s c) (did w s c)) room auction long k fs e a
 
 -- of every run
 pub contracts_are_shared_lawfully : {P T F Q : Type 0} (w : World P T F Q) → Terms w → ContractsAreSharedLawfully w

@@ -9,4 +9,5 @@ pub mod Sessions
 pub mod Purses
 pub mod Told
 pub mod Memory
+pub mod Made
 pub mod Outcomes

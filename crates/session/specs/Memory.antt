@@ -1,6 +1,7 @@
 -- The memory that a run takes before its first call: a place for each answer, a place in the purse for each call, and a list
 -- of rows for each collecting.
-use Rattle.std.specs.Prelude.{ℕ, ◌+◌, Bool, true, false, cond, List, [], ◌∷◌}
+use Rattle.std.specs.Prelude.{◌≡◌, ℕ, ◌+◌, ◌≤◌, Bool, true, false, cond, List, [], ◌∷◌, Vec, vec_items, vec_capacity}
+use Rattle.allocation.specs.declared.fill.FillRow.{FillRow}
 use Rattle.session.specs.declared.calls.Call.{Call}
 use Rattle.session.specs.declared.calls.Call.TheVariants.{Open, Respond, Change, Withdraw, Tick, Halt, Resume, Clock, Look, Collect}
 
@@ -24,3 +25,7 @@ lists_for c = cond (is_collecting c) 1 0
 abbrev pub collectings_in : {T : Type 0} → List (Call T) → ℕ
 collectings_in [] = 0
 collectings_in (c ∷ cs) = lists_for c + collectings_in cs
+
+-- A list of rows that is kept for a collecting: it is empty, and has a place for every row.
+abbrev pub TakesEveryRow : {Z : Type 0} → Vec FillRow Z → Type 0
+TakesEveryRow rows = (vec_items rows ≡ []) × (129 ≤ vec_capacity rows)

@@ -1,4 +1,7 @@
 // The calls on a room, as values.
+ghost use Rattle.std.specs.Prelude.{◌≡◌};
+ghost use Rattle.session.specs.Memory.{is_collecting};
+
 use room::answers::ClaimNumbers;
 use room::requests::{ChangeRequest, OpeningRequest, ResponseRequest, WithdrawRequest};
 
@@ -15,4 +18,12 @@ pub enum Call<T> {
     Clock { time: u64 },
     Look,
     Collect { claim: ClaimNumbers, rows: usize },
+}
+
+impl<T> Call<T> {
+    pub(crate) fn is_collecting(&self) -> bool
+        ensures { result ≡ is_collecting self.now }
+    {
+        matches!(self, Call::Collect { .. })
+    }
 }

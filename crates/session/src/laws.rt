@@ -1,4 +1,4 @@
-// The laws over whole runs, as contracts. These functions compute nothing.
+// The laws over whole runs, as contracts. These functions do nothing.
 ghost use Rattle.room.specs.World.{World};
 ghost use Rattle.session.specs.Laws.{RunLaws};
 
@@ -7,8 +7,6 @@ use interval::source::IntervalSource;
 use market::market::Market;
 
 // Of every run of the model of a room over any market, source and ranking.
-pub fn run_laws_hold<M: Market, S: IntervalSource, R: Ranking>(ranking: &R) -> u8
+pub fn run_laws_hold<M: Market, S: IntervalSource, R: Ranking>(ranking: &R)
     ensures { RunLaws (record { market = M.Market.meaning; source = S.IntervalSource.meaning; ahead = R.Ranking.ahead ranking.now }) }
-{
-    0
-}
+{}

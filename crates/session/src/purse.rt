@@ -1,41 +1,65 @@
-// A purse of claims: taking out the one of given numbers.
-ghost use Rattle.std.specs.Prelude.{◌≡◌, ◌+◌, map, if◌then◌else◌, Some, None as Nothing, vec_len, vec_capacity, MatchOption};
+// The purse of a session: the claims that are held, with places for those to come.
+ghost use Rattle.std.specs.Prelude.{◌≡◌, ◌+◌, ◌-◌, ◌≤◌, [], ◌∷◌, ◌++◌, map, if◌then◌else◌, Some, None as Nothing, position, vec_len, vec_capacity, MatchOption};
 ghost use Rattle.std.specs.Option.{option_map};
 ghost use Rattle.room.specs.Rooms.{claim_numbers};
-ghost use Rattle.session.specs.Purses.{FirstAt, NoneHeld};
 ghost use Rattle.session.specs.Sessions.{same_claim, holds, without_claim};
 
 use room::answers::ClaimNumbers;
 use room::claim::Claim;
+use std::marker::Model;
 
-fn is_same(claim: &Claim, numbers: &ClaimNumbers) -> bool
-    ensures { result ≡ same_claim (claim_numbers claim.now) numbers.now }
-{
-    let own = claim.numbers();
-    own.room == numbers.room && own.auction == numbers.auction
+// A contract sees the numbers of the claims, and how many places are free.
+pub(crate) struct Purse {
+    claims: Vec<Claim>,
+}
+
+impl Model for Purse {
+    ghost use Rattle.std.specs.Prelude.{◌-◌, map, vec_len, vec_capacity};
+    ghost use Rattle.room.specs.Rooms.{claim_numbers};
+    ghost use Rattle.session.specs.Purses.{PurseValue};
+
+    ghost Value = { PurseValue };
+
+    ghost view = { λ p. record { numbers = map claim_numbers p.claims.items; places = vec_capacity p.claims - vec_len p.claims } };
 }
 
 // The place of the first claim of these numbers.
-fn find(purse: &Vec<Claim>, numbers: &ClaimNumbers) -> Option<usize>
-    ensures { MatchOption result (NoneHeld numbers.now (map claim_numbers purse.now.items)) (λ i. FirstAt numbers.now (map claim_numbers purse.now.items) i) }
+fn place_of(claims: &[Claim], numbers: &ClaimNumbers) -> Option<usize>
+    ensures { result ≡ position (λ claim. same_claim (claim_numbers claim) numbers.now) claims.now }
 {
-    for i in 0..purse.len() {
-        if is_same(&purse[i], numbers) {
-            return Some(i);
-        }
-    }
-    None
+    claims.iter().position(|claim| claim.numbers() == *numbers)
 }
 
-// Takes the first claim of these numbers out of the purse; none, and the purse is as it was, where there is none.
-pub(crate) fn take_claim(purse: &mut Vec<Claim>, numbers: &ClaimNumbers) -> Option<Claim>
-    ensures claim { option_map claim_numbers result ≡ (if holds numbers.now (map claim_numbers purse.old.items) then Some numbers.now else Nothing) }
-    ensures others { map claim_numbers purse.new.items ≡ without_claim numbers.now (map claim_numbers purse.old.items) }
-    ensures places { MatchOption result (vec_len purse.new ≡ vec_len purse.old) (λ _. vec_len purse.new + 1 ≡ vec_len purse.old) }
-    ensures capacity { vec_capacity purse.new ≡ vec_capacity purse.old }
-{
-    match find(purse, numbers) {
-        None => None,
-        Some(at) => Some(purse.remove(at)),
+impl Purse {
+    pub(crate) fn new(claims: Vec<Claim>) -> Purse
+        ensures numbers { result.numbers ≡ map claim_numbers claims.items }
+        ensures places { result.places ≡ vec_capacity claims - vec_len claims }
+    {
+        Purse { claims }
+    }
+
+    pub(crate) fn into_claims(self) -> Vec<Claim>
+        ensures { map claim_numbers result.items ≡ self.numbers }
+    {
+        let Purse { claims } = self;
+        claims
+    }
+
+    // Takes out the first claim of these numbers; where there is none, the purse is as it was.
+    pub(crate) fn take(&mut self, numbers: &ClaimNumbers) -> Option<Claim>
+        ensures claim { option_map claim_numbers result ≡ (if holds numbers.now self.old.numbers then Some numbers.now else Nothing) }
+        ensures others { self.new.numbers ≡ without_claim numbers.now self.old.numbers }
+        ensures places { MatchOption result (self.new.places ≡ self.old.places) (λ _. self.new.places ≡ self.old.places + 1) }
+    {
+        let at = place_of(&self.claims, numbers)?;
+        Some(self.claims.remove(at))
+    }
+
+    pub(crate) fn put(&mut self, claim: Claim)
+        requires { 1 ≤ self.old.places }
+        ensures numbers { self.new.numbers ≡ self.old.numbers ++ claim_numbers claim ∷ [] }
+        ensures places { self.new.places + 1 ≡ self.old.places }
+    {
+        self.claims.push_reserved(claim);
     }
 }

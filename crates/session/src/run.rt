@@ -1,46 +1,43 @@
 // A run: a room is made of its values, and any list of calls is carried out on it.
-ghost use Rattle.std.specs.Prelude.{◌≡◌, ◌+◌, ◌≤◌, [], ◌++◌, map, vec_len, vec_capacity, MatchResult};
-ghost use Rattle.std.specs.List.{AllByRecursion};
-ghost use Rattle.room.specs.Rooms.{claim_numbers, state_of, world_of};
+ghost use Rattle.std.specs.Prelude.{◌≡◌, ◌+◌, ◌≤◌, [], vec_len, vec_capacity, IfOk, MatchResult};
+ghost use Rattle.room.specs.Rooms.{world_of};
 ghost use Rattle.session.specs.Memory.{collectings_in};
 ghost use Rattle.session.specs.Outcomes.{HandedBack, RunAsModelled};
-ghost use Rattle.session.specs.Sessions.{session_answers, session_end, session_of};
-ghost use Rattle.session.specs.Told.{told};
 
 use crate::answers::Answer;
 use crate::calls::Call;
 use crate::handed::{Finished, Handed};
-use crate::memory::take_lists;
-use crate::step::make_call;
-use allocation::fill::FillRow;
+use crate::lists::RowLists;
+use crate::purse::Purse;
+use crate::session::Session;
 use allocation::ranking::Ranking;
 use interval::source::IntervalSource;
 use market::market::Market;
 use room::claim::Claim;
 use room::room::Room;
-use std::alloc::Global;
+use std::alloc::{AllocError, Global};
 
-// Carries out the calls, one after another.
-fn play<M: Market, R: Ranking, S: IntervalSource>(
-    room: &mut Room<M, R, S>,
-    calls: Vec<Call<M::Tick>>,
+// All the memory that a run can want, beside the places in its purse.
+struct Memory<F> {
+    lists: RowLists,
+    answers: Vec<Answer<F>>,
+}
+
+// A list of rows for each collecting, a place for each answer, and a place in the purse for each call.
+fn take_memory<T, F: Drop>(
+    heap: Global,
+    calls: &Vec<Call<T>>,
     purse: &mut Vec<Claim>,
-    answers: &mut Vec<Answer<M::Fault>>,
-    lists: &mut Vec<Vec<FillRow>>,
-)
-where
-    M::Tick: Drop,
-    requires answers { vec_len answers.old + vec_len calls ≤ vec_capacity answers.old }
-    requires purse { vec_len purse.old + vec_len calls ≤ vec_capacity purse.old }
-    requires lists { collectings_in calls.items ≤ vec_len lists.old }
-    requires empty { AllByRecursion (λ l. (l.items ≡ []) × (129 ≤ vec_capacity l)) lists.old.items }
-    ensures answers { map told answers.new.items ≡ map told answers.old.items ++ session_answers (world_of M.Market.meaning S.IntervalSource.meaning (R.Ranking.ahead room.old.ranking)) (session_of (state_of M.Market.position S.IntervalSource.position room.old) (map claim_numbers purse.old.items)) calls.items }
-    ensures session { session_of (state_of M.Market.position S.IntervalSource.position room.new) (map claim_numbers purse.new.items) ≡ session_end (world_of M.Market.meaning S.IntervalSource.meaning (R.Ranking.ahead room.old.ranking)) (session_of (state_of M.Market.position S.IntervalSource.position room.old) (map claim_numbers purse.old.items)) calls.items }
+) -> Result<Memory<F>, AllocError>
+    ensures lists { IfOk result (λ m. collectings_in calls.now.items ≤ m.lists) }
+    ensures answers { IfOk result (λ m. (m.answers.items ≡ []) × (vec_len calls.now ≤ vec_capacity m.answers)) }
+    ensures places { IfOk result (λ _. vec_len purse.new + vec_len calls.now ≤ vec_capacity purse.new) }
+    ensures claims { purse.new.items ≡ purse.old.items }
 {
-    for call in calls {
-        let answer = make_call(room, purse, lists, call);
-        answers.push_reserved(answer);
-    }
+    let lists = RowLists::for_calls(heap, calls)?;
+    let answers = Vec::with_capacity(heap, calls.len())?;
+    purse.try_reserve(calls.len())?;
+    Ok(Memory { lists, answers })
 }
 
 // Makes a room of its values, carries out the calls in order, and hands back the answers, the room and the purse. It takes
@@ -55,49 +52,34 @@ where
     M::Fault: Drop,
     ensures { MatchResult result (λ f. RunAsModelled (world_of M.Market.meaning S.IntervalSource.meaning (R.Ranking.ahead handed.ranking)) M.Market.position S.IntervalSource.position handed f) (λ h. HandedBack handed h) }
 {
+    let mut handed = handed;
+    let Ok(Memory { lists, mut answers }) = take_memory(heap, &handed.calls, &mut handed.purse)
+    else {
+        return Err(handed);
+    };
     let Handed {
         number,
         market,
         ranking,
         source,
         calls,
-        mut purse,
+        purse,
     } = handed;
-    let Ok(mut lists) = take_lists(heap, &calls) else {
-        return Err(Handed {
-            number,
-            market,
-            ranking,
-            source,
-            calls,
-            purse,
-        });
+    let room = Room::new(number, market, ranking, source);
+    let mut session = Session {
+        room,
+        purse: Purse::new(purse),
+        lists,
     };
-    let Ok(mut answers) = Vec::with_capacity(heap, calls.len()) else {
-        return Err(Handed {
-            number,
-            market,
-            ranking,
-            source,
-            calls,
-            purse,
-        });
-    };
-    let Ok(()) = purse.try_reserve(calls.len()) else {
-        return Err(Handed {
-            number,
-            market,
-            ranking,
-            source,
-            calls,
-            purse,
-        });
-    };
-    let mut room = Room::new(number, market, ranking, source);
-    play(&mut room, calls, &mut purse, &mut answers, &mut lists);
+    session.play(calls, &mut answers);
+    let Session {
+        room,
+        purse,
+        lists: _,
+    } = session;
     Ok(Finished {
         answers,
         room,
-        purse,
+        purse: purse.into_claims(),
     })
 }

@@ -100,11 +100,11 @@ module _ {P T F Q : Type 0} (w : World P T F Q) (m : Moment P T F Q) where
 
   pub counted_by : WithinLimits w.source → due m.stepped.time m.stepped.current ≡ false → Did w m → Counted
   counted_by drawn h (idle b e k) = same k.opens_none k.collects_none (subst (HoldsAsMany m.stepped) (sym e) (record { as_many = refl; none_due = h; same_opened = refl; same_source = refl; same_number = refl }))
-  counted_by drawn h (opened x r j y f g i z) =
-      more (ap (λ (k : Answer F). opened_number k) y) (ap (λ (k : Answer F). is_collected k) y) (ap (λ (v : RoomState P Q). v.opened) f)
-      (ap (λ (v : RoomState P Q). held_in v) f ∙ opened_held m.stepped.current m.stepped.waiting)
-      (ap (λ (v : RoomState P Q). due v.time v.current) f ∙ not_due_yet m.stepped.time (w.source.draws m.stepped.source) (drawn m.stepped.source).0)
-      (ap (λ (v : RoomState P Q). v.source) f) (ap (λ (v : RoomState P Q). v.number) f)
+  counted_by drawn h (opened d) =
+      more (ap (λ (k : Answer F). opened_number k) d.answer_is) (ap (λ (k : Answer F). is_collected k) d.answer_is) (ap (λ (v : RoomState P Q). v.opened) d.after_is)
+      (ap (λ (v : RoomState P Q). held_in v) d.after_is ∙ opened_held m.stepped.current m.stepped.waiting)
+      (ap (λ (v : RoomState P Q). due v.time v.current) d.after_is ∙ not_due_yet m.stepped.time (w.source.draws m.stepped.source) (drawn m.stepped.source).0)
+      (ap (λ (v : RoomState P Q). v.source) d.after_is) (ap (λ (v : RoomState P Q). v.number) d.after_is)
   counted_by drawn h (stored a b t e y g like told sound k) =
       same (ap (λ (v : Answer F). opened_number v) y) (ap (λ (v : Answer F). is_collected v) y)
       (subst (HoldsAsMany m.stepped) (sym k) (responded_held (plain_below a.values.order.side a.values.floor m.call) m.stepped a b e like.same_deadline h))
@@ -117,11 +117,11 @@ module _ {P T F Q : Type 0} (w : World P T F Q) (m : Moment P T F Q) where
       let held = ended_held Halted m.stepped in
       same (ap (λ (v : Answer F). opened_number v) y) (ap (λ (v : Answer F). is_collected v) y)
       (subst (HoldsAsMany m.stepped) (sym f) (record { as_many = held.as_many; none_due = refl; same_opened = refl; same_source = refl; same_number = refl }))
-  counted_by drawn h (collected claim rows x j u y f g) =
-      let less = without_length claim.auction m.stepped.waiting x g in
-      fewer (ap (λ (v : Answer F). opened_number v) y) (ap (λ (v : Answer F). is_collected v) y) (ap (λ (v : RoomState P Q). v.opened) f)
-      (ap (λ (v : RoomState P Q). held_in v + 1) f ∙ omega arith)
-      (ap (λ (v : RoomState P Q). due v.time v.current) f ∙ h) (ap (λ (v : RoomState P Q). v.source) f) (ap (λ (v : RoomState P Q). v.number) f)
+  counted_by drawn h (collected d) =
+      let less = without_length d.claim.auction m.stepped.waiting d.auction d.waited in
+      fewer (ap (λ (v : Answer F). opened_number v) d.answer_is) (ap (λ (v : Answer F). is_collected v) d.answer_is) (ap (λ (v : RoomState P Q). v.opened) d.after_is)
+      (ap (λ (v : RoomState P Q). held_in v + 1) d.after_is ∙ omega arith)
+      (ap (λ (v : RoomState P Q). due v.time v.current) d.after_is ∙ h) (ap (λ (v : RoomState P Q). v.source) d.after_is) (ap (λ (v : RoomState P Q). v.number) d.after_is)
 
   -- the market's position moves by accepted ticks and by nothing else
   position_quiet : (b : Bool) (o : Option T) (x : P) → (b && is_some o) ≡ false → position_then w.market.next b o x ≡ x
@@ -129,18 +129,20 @@ module _ {P T F Q : Type 0} (w : World P T F Q) (m : Moment P T F Q) where
   position_quiet true (Some t) x h = true_false h
   position_quiet false (Some t) x h = refl
 
+  unmoved : m.after.position ≡ m.stepped.position → (is_accepted m.answer && is_some (tick_in m.call)) ≡ false
+      → m.after.position ≡ position_then w.market.next (is_accepted m.answer) (tick_in m.call) m.stepped.position
+  unmoved e h = e ∙ sym (position_quiet (is_accepted m.answer) (tick_in m.call) m.stepped.position h)
+
   pub position_by : Did w m → m.after.position ≡ position_then w.market.next (is_accepted m.answer) (tick_in m.call) m.stepped.position
-  position_by (idle b e k) = ap (λ (v : RoomState P Q). v.position) e ∙ sym (position_quiet (is_accepted m.answer) (tick_in m.call) m.stepped.position k.ticks_none)
-  position_by (opened x r j y f g i z) =
-      ap (λ (v : RoomState P Q). v.position) f ∙ sym (position_quiet (is_accepted m.answer) (tick_in m.call) m.stepped.position (ap (λ (v : Answer F). is_accepted v && is_some (tick_in m.call)) y))
+  position_by (idle b e k) = unmoved (ap (λ (v : RoomState P Q). v.position) e) k.ticks_none
+  position_by (opened d) = unmoved (ap (λ (v : RoomState P Q). v.position) d.after_is) (ap (λ (v : Answer F). is_accepted v && is_some (tick_in m.call)) d.answer_is)
   position_by (stored a b t e y g like told sound k) =
-      ap (λ (v : RoomState P Q). v.position) k ∙ responded_position (plain_below a.values.order.side a.values.floor m.call) m.stepped b
-      ∙ sym (position_quiet (is_accepted m.answer) (tick_in m.call) m.stepped.position (ap (λ (v : Answer F). is_accepted v && is_some (tick_in m.call)) y))
+      unmoved (ap (λ (v : RoomState P Q). v.position) k ∙ responded_position (plain_below a.values.order.side a.values.floor m.call) m.stepped b)
+      (ap (λ (v : Answer F). is_accepted v && is_some (tick_in m.call)) y)
+  position_by (collected d) = unmoved (ap (λ (v : RoomState P Q). v.position) d.after_is) (ap (λ (v : Answer F). is_accepted v && is_some (tick_in m.call)) d.answer_is)
   position_by (ticks t x j y f) =
       ap (λ (v : RoomState P Q). v.position) f
       ∙ ticked_position m.stepped.current (w.market.shows (w.market.next m.stepped.position x)) (at_position (w.market.next m.stepped.position x) m.stepped)
       ∙ sym (ap (λ (v : Answer F). position_then w.market.next (is_accepted v) (tick_in m.call) m.stepped.position) y ∙ ap (λ (v : Call T). position_then w.market.next true (tick_in v) m.stepped.position) j)
   position_by (halts t j y f) =
       ap (λ (v : RoomState P Q). v.position) f ∙ sym (ap (λ (v : Call T). position_then w.market.next (is_accepted m.answer) (tick_in v) m.stepped.position) j)
-  position_by (collected claim rows x j u y f g) =
-      ap (λ (v : RoomState P Q). v.position) f ∙ sym (position_quiet (is_accepted m.answer) (tick_in m.call) m.stepped.position (ap (λ (v : Answer F). is_accepted v && is_some (tick_in m.call)) y))

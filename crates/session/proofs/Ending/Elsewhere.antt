@@ -1,6 +1,6 @@
 -- What a call does to an auction that is not open when it comes: unless the call opens or collects that very auction, it
 -- stays closed, and waits or not as before.
-use Rattle.std.proofs.Common.{◌≡◌, ℕ, ◌+◌, ◌≤◌, Bool, true, false, cond, ◌&&◌, eqb, List, Some, None, Option, sym, refl, ap, ◌∙◌, subst, arith}
+use Rattle.std.proofs.Common.{◌≡◌, ◌⊎◌, inl, inr, ℕ, ◌+◌, ◌≤◌, Bool, true, false, cond, ◌&&◌, eqb, List, Some, None, Option, sym, refl, ap, ◌∙◌, subst, arith}
 use Rattle.std.proofs.lemmas.Bool.Decides.{nat_tests as tests}
 use Rattle.market.specs.declared.quote.Quote.{Quote}
 use Rattle.market.specs.declared.range.TurnedQuote.{TurnedQuote}
@@ -14,7 +14,7 @@ use Rattle.session.specs.declared.calls.Call.{Call}
 use Rattle.session.specs.History.{is_open, opens, collects, opened_number, is_collected, is_same, claimed, plain_below}
 use Rattle.session.specs.Runs.{Answer, Opened, Moment}
 use Rattle.session.proofs.Ending.Lives.{Stepped, kept, expired}
-use Rattle.session.proofs.Ending.Shapes.{Did, idle, opened, stored, ticks, halts, collected}
+use Rattle.session.proofs.Ending.Shapes.{Did, idle, opened, stored, ticks, halts, collected, OpenedHere, CollectedHere, opened_or_not, collected_or_not}
 use Rattle.room.proofs.Tests.{none_some}
 use Rattle.session.proofs.Ending.Waiting.{Once, closed_other, once_closed, numbered_without_other, once_without_other}
 
@@ -74,9 +74,9 @@ module _ {P T F Q : Type 0} (w : World P T F Q) (n : ℕ) (m : Moment P T F Q) w
   -- a call that does not open or collect this auction, after its clock step
   pub did_elsewhere : Did w m → is_open n m.stepped ≡ false → opens n m ≡ false → collects n m ≡ false → Elsewhere n m.stepped m.after
   did_elsewhere (idle b e k) h o c = subst (Elsewhere n m.stepped) (sym e) (same_elsewhere n m.stepped (with_halted b m.stepped) h refl refl)
-  did_elsewhere (opened x r e a f g i z) h o c =
-      let other : eqb (m.stepped.opened + 1) n ≡ false = sym (ap (λ (y : Answer F). is_same n (opened_number y)) a) ∙ o in
-      subst (Elsewhere n m.stepped) (sym f) (record {
+  did_elsewhere (opened d) h o c =
+      let other : eqb (m.stepped.opened + 1) n ≡ false = sym (ap (λ (y : Answer F). is_same n (opened_number y)) d.answer_is) ∙ o in
+      subst (Elsewhere n m.stepped) (sym d.after_is) (record {
         still_closed = other;
         same_waiting = closed_other NextAuction n m.stepped.current m.stepped.waiting h;
         still_once = once_closed NextAuction n m.stepped.current m.stepped.waiting h;
@@ -90,12 +90,12 @@ module _ {P T F Q : Type 0} (w : World P T F Q) (n : ℕ) (m : Moment P T F Q) w
       subst (Elsewhere n m.stepped) (sym f) (both_elsewhere n m.stepped at _ (same_elsewhere n m.stepped at h refl refl) (ticked_elsewhere n m.stepped.current (w.market.shows (w.market.next m.stepped.position x)) at refl h))
   did_elsewhere (halts t e a f) h o c =
       subst (Elsewhere n m.stepped) (sym f) (both_elsewhere n m.stepped (ended Halted m.stepped) _ (ended_elsewhere n Halted m.stepped h) (same_elsewhere n (ended Halted m.stepped) (with_halted true (ended Halted m.stepped)) refl refl refl))
-  did_elsewhere (collected claim rows x e u a f g) h o c =
-      let other : eqb claim.auction n ≡ false = sym (ap (λ (y : Answer F). is_collected y && is_same n (claimed m.call)) a ∙ ap (λ (y : Call T). is_same n (claimed y)) e) ∙ c in
-      subst (Elsewhere n m.stepped) (sym f) (record {
+  did_elsewhere (collected d) h o c =
+      let other : eqb d.claim.auction n ≡ false = sym (ap (λ (y : Answer F). is_collected y && is_same n (claimed m.call)) d.answer_is ∙ ap (λ (y : Call T). is_same n (claimed y)) d.call_is) ∙ c in
+      subst (Elsewhere n m.stepped) (sym d.after_is) (record {
         still_closed = h;
-        same_waiting = numbered_without_other claim.auction n m.stepped.waiting other;
-        still_once = once_without_other claim.auction n m.stepped.waiting other;
+        same_waiting = numbered_without_other d.claim.auction n m.stepped.waiting other;
+        still_once = once_without_other d.claim.auction n m.stepped.waiting other;
         opened_up = omega arith;
       })
 
@@ -103,13 +103,12 @@ module _ {P T F Q : Type 0} (w : World P T F Q) (n : ℕ) (m : Moment P T F Q) w
   number_differs : (a : Answer F) (k : ℕ) → a ≡ Opened (record { room = m.stepped.number; auction = k + 1 }) → n ≤ k → is_same n (opened_number a) ≡ false
   number_differs a k e h = ap (λ (y : Answer F). is_same n (opened_number y)) e ∙ (let less = h in grind (arith, tests))
 
+  opened_before : OpenedHere w m ⊎ (opened_number m.answer ≡ None) → n ≤ m.stepped.opened → opens n m ≡ false
+  opened_before (inl d) h = number_differs m.answer m.stepped.opened d.answer_is h
+  opened_before (inr none) h = ap (is_same n) none
+
   pub not_opened : Did w m → n ≤ m.stepped.opened → opens n m ≡ false
-  not_opened (idle b e k) h = ap (is_same n) k.opens_none
-  not_opened (opened x r e a f g i z) h = number_differs m.answer m.stepped.opened a h
-  not_opened (stored a b t e f g same told sound k) h = ap (λ (y : Answer F). is_same n (opened_number y)) f
-  not_opened (ticks t x e a f) h = ap (λ (y : Answer F). is_same n (opened_number y)) a
-  not_opened (halts t e a f) h = ap (λ (y : Answer F). is_same n (opened_number y)) a
-  not_opened (collected claim rows x e u a f g) h = ap (λ (y : Answer F). is_same n (opened_number y)) a
+  not_opened did h = opened_before (opened_or_not w m did) h
 
   -- an auction that does not wait is not collected
   claim_differs : (es : List EndedAuction) (k : ℕ) (x : EndedAuction) (b : Bool) → eqb k n ≡ b → numbered k es ≡ Some x → numbered n es ≡ None → b ≡ false
@@ -118,11 +117,11 @@ module _ {P T F Q : Type 0} (w : World P T F Q) (n : ℕ) (m : Moment P T F Q) w
       let same : k ≡ n = grind (arith, tests) in
       none_some x (sym g ∙ sym (ap (λ i. numbered i es) same) ∙ f)
 
+  none_waits : CollectedHere w m ⊎ (is_collected m.answer ≡ false) → numbered n m.stepped.waiting ≡ None → collects n m ≡ false
+  none_waits (inl d) h =
+      ap (λ (y : Answer F). is_collected y && is_same n (claimed m.call)) d.answer_is ∙ ap (λ (y : Call T). is_same n (claimed y)) d.call_is
+      ∙ claim_differs m.stepped.waiting d.claim.auction d.auction (eqb d.claim.auction n) refl d.waited h
+  none_waits (inr none) h = ap (λ (b : Bool). b && is_same n (claimed m.call)) none
+
   pub not_collected : Did w m → numbered n m.stepped.waiting ≡ None → collects n m ≡ false
-  not_collected (idle b e k) h = ap (λ (b : Bool). b && is_same n (claimed m.call)) k.collects_none
-  not_collected (opened x r e a f g i z) h = ap (λ (y : Answer F). is_collected y && is_same n (claimed m.call)) a
-  not_collected (stored a b t e f g same told sound k) h = ap (λ (y : Answer F). is_collected y && is_same n (claimed m.call)) f
-  not_collected (ticks t x e a f) h = ap (λ (y : Answer F). is_collected y && is_same n (claimed m.call)) a
-  not_collected (halts t e a f) h = ap (λ (y : Answer F). is_collected y && is_same n (claimed m.call)) a
-  not_collected (collected claim rows x e u a f g) h =
-      ap (λ (y : Answer F). is_collected y && is_same n (claimed m.call)) a ∙ ap (λ (y : Call T). is_same n (claimed y)) e ∙ claim_differs m.stepped.waiting claim.auction x (eqb claim.auction n) refl g h
+  not_collected did h = none_waits (collected_or_not w m did) h

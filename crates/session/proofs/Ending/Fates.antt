@@ -1,32 +1,27 @@
 -- What a call does to the auction that is open when it comes: it ends exactly if the call brings one of its causes, for
 -- the first of them, and otherwise stays open; either way what the history then tells of it is what the room holds.
-use Rattle.std.proofs.Common.{◌≡◌, ℕ, ◌+◌, ◌≤◌, Bool, true, false, cond, not, ◌&&◌, eqb, leb, List, [], ◌∷◌, ◌++◌, is_some, Some, None, Option, sym, refl, ap, ◌∙◌, subst}
+use Rattle.std.proofs.Common.{◌≡◌, ◌⊎◌, inl, inr, ℕ, ◌≤◌, Bool, true, false, cond, not, ◌&&◌, eqb, leb, List, [], ◌∷◌, ◌++◌, is_some, Some, None, Option, sym, refl, ap, ◌∙◌, subst}
+use Rattle.std.proofs.lemmas.Bool.{and_from, and_left, and_right}
 use Rattle.market.specs.declared.range.TurnedQuote.{TurnedQuote}
 use Rattle.market.specs.Range.{turned_quote}
 use Rattle.allocation.specs.declared.cause.EndCause.{EndCause}
 use Rattle.allocation.specs.declared.cause.EndCause.TheVariants.{NextAuction, FloorAboveInitiating, FloorAboveResponse, FloorAboveStop, PlainBelowFloor, ContraBelowGuarantee, Halt as Halted, Deadline}
 use Rattle.allocation.specs.declared.order.PairedOrder.{PairedOrder}
 use Rattle.allocation.specs.Auction.{told_of}
-use Rattle.allocation.specs.declared.fill.FillRow.{FillRow}
-use Rattle.market.specs.Range.{RangePrices}
-use Rattle.room.specs.declared.answers.ClaimNumbers.{ClaimNumbers}
-use Rattle.room.specs.declared.answers.Collection.{Collection}
 use Rattle.room.specs.declared.answers.StoredTerms.{StoredTerms}
-use Rattle.room.specs.declared.requests.OpeningRequest.{OpeningRequest}
 use Rattle.room.specs.Clock.{due}
-use Rattle.room.specs.Openings.{opened_with}
-use Rattle.room.specs.State.{OpenAuction, EndedAuction, RoomState, at_time, at_position, with_halted, with_current, with_waiting, ended, closed, is_number, numbered, without_number}
+use Rattle.room.specs.State.{OpenAuction, EndedAuction, RoomState, at_time, at_position, with_halted, with_current, ended, closed, is_number, numbered, without_number}
 use Rattle.room.specs.Ticks.{shown_above, shown_below, above_response, above_stop, ends_for, tick_cause, ticked_for, ticked, at_floor, floor_now}
 use Rattle.room.specs.World.{World}
 use Rattle.session.specs.declared.calls.Call.{Call}
-use Rattle.session.specs.declared.calls.Call.TheVariants.{Tick, Halt, Collect}
+use Rattle.session.specs.declared.calls.Call.TheVariants.{Tick, Halt}
 use Rattle.session.specs.History.{deadline_of, guarantee_of, is_open, ends_at, opens, collects, keeps_open, ticked_at, another_opened, opened_number, told_terms, is_accepted, is_collected, is_same, claimed, tick_in, is_halt, plain_below, stood_in, stood_after, stood_answered, shown_to, market_at, position_then, floor_of, is_above, is_below, stop_passed, above_one, deadline_reached, floor_above_initiating, floor_above_response, floor_above_stop, contra_below_guarantee, plain_response_below_floor, halt_accepted, first_cause, cause_by, cause_at}
-use Rattle.session.specs.Runs.{Answer, Opened, Stored, Accepted, Collected, Moment}
+use Rattle.session.specs.Runs.{Answer, Stored, Accepted, Moment}
 use Rattle.session.proofs.Ending.Elsewhere.{did_elsewhere, not_opened, not_collected}
 use Rattle.session.proofs.Ending.Lives.{Stepped, kept, expired, Tells, Alive, Over, opening_kept, ended_kept, ended_now, cause_now, collected_kept, floor_kept, floor_moved, stood_open, stood_quiet, above_is, below_is as below_shown, stop_is, above_one_is}
-use Rattle.session.proofs.Ending.Shapes.{Did, idle, opened, stored, ticks, halts, collected, SameButResponses, Quiet}
+use Rattle.session.proofs.Ending.Shapes.{Did, idle, opened, stored, ticks, halts, collected, SameButResponses, Quiet, OpenedHere, CollectedHere, collected_or_not}
 use Rattle.room.proofs.Sound.{Sound, tick_sound}
-use Rattle.room.proofs.Tests.{none_some, and_false_left, and_false_right, both_true}
+use Rattle.room.proofs.Tests.{none_some}
 use Rattle.session.proofs.Ending.Waiting.{Once, as_ended, numbered_new, once_new, numbered_without_other}
 
 -- The first cause of eight, in the order T, A, B, C, D, F, E, H.
@@ -34,20 +29,24 @@ abbrev cause_among : Bool → Bool → Bool → Bool → Bool → Bool → Bool 
 cause_among t a b c d f e h =
     ends_for t Deadline (ends_for a NextAuction (ends_for b FloorAboveInitiating (ends_for c FloorAboveResponse (ends_for d FloorAboveStop (ends_for f ContraBelowGuarantee (ends_for e PlainBelowFloor (ends_for h Halted None)))))))
 
-none_of : (t a b c d f e h : Bool) → t ≡ false → a ≡ false → b ≡ false → c ≡ false → d ≡ false → f ≡ false → e ≡ false → h ≡ false → cause_among t a b c d f e h ≡ None
-none_of t a b c d f e h ht ha hb hc hd hf he hh = cc
-
 deadline_first : (t a b c d f e h : Bool) → t ≡ true → cause_among t a b c d f e h ≡ Some Deadline
 deadline_first t a b c d f e h ht = cc
 
 next_first : (t a b c d f e h : Bool) → t ≡ false → a ≡ true → cause_among t a b c d f e h ≡ Some NextAuction
 next_first t a b c d f e h ht ha = cc
 
-plain_first : (t a b c d f e h : Bool) → t ≡ false → a ≡ false → b ≡ false → c ≡ false → d ≡ false → f ≡ false → e ≡ true → cause_among t a b c d f e h ≡ Some PlainBelowFloor
-plain_first t a b c d f e h ht ha hb hc hd hf he = cc
+-- A call that brings no tick brings none of the four causes that a tick has.
+untouched : (t a tick b c d f e h : Bool) → tick ≡ false → cause_among t a (tick && b) (tick && c) (tick && d) (tick && f) e h ≡ cause_among t a false false false false e h
+untouched t a tick b c d f e h ht = ap (λ (k : Bool). cause_among t a (k && b) (k && c) (k && d) (k && f) e h) ht
 
-halt_first : (t a b c d f e h : Bool) → t ≡ false → a ≡ false → b ≡ false → c ≡ false → d ≡ false → f ≡ false → e ≡ false → h ≡ true → cause_among t a b c d f e h ≡ Some Halted
-halt_first t a b c d f e h ht ha hb hc hd hf he hh = cc
+none_of : (t a tick b c d f e h : Bool) → t ≡ false → a ≡ false → tick ≡ false → e ≡ false → h ≡ false → cause_among t a (tick && b) (tick && c) (tick && d) (tick && f) e h ≡ None
+none_of t a tick b c d f e h ht ha hk he hh = let quiet = untouched t a tick b c d f e h hk in cc
+
+plain_first : (t a tick b c d f e h : Bool) → t ≡ false → a ≡ false → tick ≡ false → e ≡ true → cause_among t a (tick && b) (tick && c) (tick && d) (tick && f) e h ≡ Some PlainBelowFloor
+plain_first t a tick b c d f e h ht ha hk he = let quiet = untouched t a tick b c d f e h hk in cc
+
+halt_first : (t a tick b c d f e h : Bool) → t ≡ false → a ≡ false → tick ≡ false → e ≡ false → h ≡ true → cause_among t a (tick && b) (tick && c) (tick && d) (tick && f) e h ≡ Some Halted
+halt_first t a tick b c d f e h ht ha hk he hh = let quiet = untouched t a tick b c d f e h hk in cc
 
 tick_first : (t a b c d f e h b' c' d' f' : Bool) → t ≡ false → a ≡ false → b ≡ b' → c ≡ c' → d ≡ d' → f ≡ f' → e ≡ false → h ≡ false
     → cause_among t a b c d f e h ≡ ends_for b' FloorAboveInitiating (ends_for c' FloorAboveResponse (ends_for d' FloorAboveStop (ends_for f' ContraBelowGuarantee None)))
@@ -137,7 +136,7 @@ module _ {P T F Q : Type 0} (w : World P T F Q) (p : P) (q : Q) where
         → first_cause w p q n live.facts past m ≡ Some c → Tells w p q n (m ∷ past) live.facts b.values → Fate n past m
     ends_now c b h k o x i z e f t =
         let caused = cause_by_facts ∙ f in
-        let ended_here : ends_at n m ≡ true = both_true (is_open n m.before) _ h (ap not k) in
+        let ended_here : ends_at n m ≡ true = and_from (is_open n m.before) _ h (ap not k) in
         ends (record {
           as_it_waits = as_ended c b;
           caused = caused;
@@ -151,7 +150,7 @@ module _ {P T F Q : Type 0} (w : World P T F Q) (p : P) (q : Q) where
         → numbered n m.after.waiting ≡ None → b.deadline ≡ a.deadline → first_cause w p q n live.facts past m ≡ None → Tells w p q n (m ∷ past) live.facts b.values → Fate n past m
     stays_now b h e i o x z d f t =
         let still : is_open n m.after ≡ true = ap (is_number n) e ∙ i in
-        stays b (cause_by_facts ∙ f) e i z (still_alive b o x (and_false_right (is_open n m.before) _ (ap not still)) d t)
+        stays b (cause_by_facts ∙ f) e i z (still_alive b o x (and_right (is_open n m.before) _ (ap not still)) d t)
 
     -- the deadline is not reached
     not_yet : (t : ℕ) → m.stepped ≡ at_time t m.before → m.before.current ≡ Some a → due t m.before.current ≡ false → leb (deadline_of live.facts) m.stepped.time ≡ false
@@ -161,19 +160,15 @@ module _ {P T F Q : Type 0} (w : World P T F Q) (p : P) (q : Q) where
     -- Cause T. After the clock step nothing more happens to the auction.
     told_none : Did w m → m.stepped.current ≡ None → told_terms m.answer ≡ None
     told_none (idle b e k) h = k.stores_none
-    told_none (opened x r e y f g i z) h = ap (λ (y : Answer F). told_terms y) y
+    told_none (opened d) h = ap (λ (y : Answer F). told_terms y) d.answer_is
     told_none (stored b c t e f g same told sound k) h = none_some b (sym h ∙ e)
     told_none (ticks t x e y f) h = ap (λ (y : Answer F). told_terms y) y
     told_none (halts t e y f) h = ap (λ (y : Answer F). told_terms y) y
-    told_none (collected claim rows x e u y f g) h = ap (λ (y : Answer F). told_terms y) y
+    told_none (collected d) h = ap (λ (y : Answer F). told_terms y) d.answer_is
 
-    not_collected_now : Did w m → m.stepped.current ≡ None → m.before.current ≡ Some a → collects n m ≡ false
-    not_collected_now (idle b e k) h c = ap (λ (b : Bool). b && is_same n (claimed m.call)) k.collects_none
-    not_collected_now (opened x r e y f g i z) h c = ap (λ (y : Answer F). is_collected y && is_same n (claimed m.call)) y
-    not_collected_now (stored b d t e f g same told sound k) h c = ap (λ (y : Answer F). is_collected y && is_same n (claimed m.call)) f
-    not_collected_now (ticks t x e y f) h c = ap (λ (y : Answer F). is_collected y && is_same n (claimed m.call)) y
-    not_collected_now (halts t e y f) h c = ap (λ (y : Answer F). is_collected y && is_same n (claimed m.call)) y
-    not_collected_now (collected claim rows x e u y f g) h c = none_some a (sym h ∙ ap (λ (z : RoomState P Q). z.current) u ∙ c)
+    not_collected_now : CollectedHere w m ⊎ (is_collected m.answer ≡ false) → m.stepped.current ≡ None → m.before.current ≡ Some a → collects n m ≡ false
+    not_collected_now (inl d) h c = none_some a (sym h ∙ ap (λ (z : RoomState P Q). z.current) d.no_clock_step ∙ c)
+    not_collected_now (inr none) h c = ap (λ (b : Bool). b && is_same n (claimed m.call)) none
 
     pub expired_ends : Did w m → (t : ℕ) → m.before.current ≡ Some a → eqb a.number n ≡ true → numbered n m.before.waiting ≡ None → n ≤ m.stepped.opened
         → leb a.deadline t ≡ true → m.stepped ≡ ended Deadline (at_time t m.before) → EndsHere n past m
@@ -182,15 +177,15 @@ module _ {P T F Q : Type 0} (w : World P T F Q) (p : P) (q : Q) where
         let open_before : is_open n m.before ≡ true = ap (is_number n) c ∙ i in
         let shut : is_open n m.stepped ≡ false = ap (is_number n) none in
         let unopened = not_opened w n m d o in
-        let uncollected = not_collected_now d none c in
+        let uncollected = not_collected_now (collected_or_not w m d) none c in
         let rest = did_elsewhere w n m d shut unopened uncollected in
         let waits_so : m.stepped.waiting ≡ m.before.waiting ++ as_ended Deadline a ∷ [] = ap (λ (x : RoomState P Q). x.waiting) e ∙ ap (λ x. closed Deadline x m.before.waiting) c in
         let now_numbered = ap (numbered n) waits_so ∙ numbered_new n m.before.waiting (as_ended Deadline a) z i in
         let now_once = ap (λ es. numbered n (without_number n es)) waits_so ∙ once_new n m.before.waiting (as_ended Deadline a) z i in
         let reached : leb (deadline_of live.facts) m.stepped.time ≡ true = ap (λ (x : RoomState P Q). leb (deadline_of live.facts) x.time) e ∙ ap (λ k. leb k t) (sym live.deadline_is) ∙ l in
         let caused : cause_at w p q n past m ≡ Some Deadline = cause_by_facts ∙ deadline_first tT tA tB tC tD tF tE tH reached in
-        let ended_here : ends_at n m ≡ true = both_true (is_open n m.before) _ open_before (ap not rest.still_closed) in
-        let floor_stays : keeps_open n m ≡ false = and_false_right (is_open n m.before) _ (and_false_left (is_open n m.after) _ rest.still_closed) in
+        let ended_here : ends_at n m ≡ true = and_from (is_open n m.before) _ open_before (ap not rest.still_closed) in
+        let floor_stays : keeps_open n m ≡ false = and_right (is_open n m.before) _ (and_left (is_open n m.after) _ rest.still_closed) in
         record {
           as_it_waits = as_ended Deadline a;
           caused = caused;
@@ -219,28 +214,29 @@ module _ {P T F Q : Type 0} (w : World P T F Q) (p : P) (q : Q) where
       none_then = ap (numbered n) waiting_then ∙ z
 
       no_tick : (is_accepted m.answer && is_some (tick_in m.call)) ≡ false → keeps_open n m ≡ false
-      no_tick h = and_false_right (is_open n m.before) _ (and_false_right (is_open n m.after) _ h)
+      no_tick h = and_right (is_open n m.before) _ (and_right (is_open n m.after) _ h)
 
       -- a call that brings nothing
       fate_idle : (b : Bool) → m.after ≡ with_halted b m.stepped → Quiet m.call m.answer → Did w m → Fate n past m
       fate_idle b f k did =
           stays_now a open_before (ap (λ (x : RoomState P Q). x.current) f ∙ current_then) i (not_opened w n m did o) (not_collected w n m did none_then)
           (ap (λ (x : RoomState P Q). numbered n x.waiting) f ∙ none_then) refl
-          (none_of tT tA tB tC tD tF tE tH (not_yet t e c d) (ap is_some k.opens_none)
-          (and_false_left (ticked_at m) _ k.ticks_none) (and_false_left (ticked_at m) _ k.ticks_none) (and_false_left (ticked_at m) _ k.ticks_none) (and_false_left (ticked_at m) _ k.ticks_none)
-          (and_false_left (is_some (told_terms m.answer)) _ (ap is_some k.stores_none)) k.halts_none)
+          (none_of tT tA (ticked_at m) _ _ _ _ tE tH (not_yet t e c d) (ap is_some k.opens_none)
+          k.ticks_none
+          (and_left (is_some (told_terms m.answer)) _ (ap is_some k.stores_none)) k.halts_none)
           (tells_quiet k.stores_none (no_tick k.ticks_none))
 
       -- another opening is accepted
-      fate_opened : (x : OpeningRequest) (r : RangePrices) → m.answer ≡ Opened (record { room = m.stepped.number; auction = m.stepped.opened + 1 })
-          → m.after ≡ opened_with w m.stepped x.order r → Did w m → Fate n past m
-      fate_opened x r y f did =
+      fate_opened : OpenedHere w m → Did w m → Fate n past m
+      fate_opened here did =
+          let y = here.answer_is in
+          let f = here.after_is in
           let unopened = not_opened w n m did o in
           let shut : is_open n m.after ≡ false = ap (λ (v : RoomState P Q). is_open n v) f ∙ sym (ap (λ (k : Answer F). is_same n (opened_number k)) y) ∙ unopened in
           ends_now NextAuction a open_before shut unopened (not_collected w n m did none_then) i z
           (ap (λ (v : RoomState P Q). v.waiting) f ∙ ap (λ k. closed NextAuction k m.stepped.waiting) current_then ∙ ap (λ es. es ++ as_ended NextAuction a ∷ []) waiting_then)
           (next_first tT tA tB tC tD tF tE tH (not_yet t e c d) (ap (λ (k : Answer F). is_some (opened_number k)) y))
-          (tells_quiet (ap (λ (k : Answer F). told_terms k) y) (and_false_right (is_open n m.before) _ (and_false_left (is_open n m.after) _ shut)))
+          (tells_quiet (ap (λ (k : Answer F). told_terms k) y) (and_right (is_open n m.before) _ (and_left (is_open n m.after) _ shut)))
 
       -- a response, a change or a withdrawal is accepted
       module _ (b : OpenAuction) (x : StoredTerms) (y : m.answer ≡ Stored x) (same : SameButResponses a b)
@@ -280,14 +276,14 @@ module _ {P T F Q : Type 0} (w : World P T F Q) (p : P) (q : Q) where
             let shut : is_open n m.after ≡ false = ap (λ (v : RoomState P Q). is_open n v) f in
             ends_now PlainBelowFloor b open_before shut (not_opened w n m did o) (not_collected w n m did none_then) number_is z
             (ap (λ (v : RoomState P Q). v.waiting) f ∙ ap (λ es. es ++ as_ended PlainBelowFloor b ∷ []) waiting_then)
-            (plain_first tT tA tB tC tD tF tE tH (not_yet t e c d) not_opening
-            (and_false_left (ticked_at m) _ quiet_tick) (and_false_left (ticked_at m) _ quiet_tick) (and_false_left (ticked_at m) _ quiet_tick) (and_false_left (ticked_at m) _ quiet_tick) (below_is ∙ h))
+            (plain_first tT tA (ticked_at m) _ _ _ _ tE tH (not_yet t e c d) not_opening
+            quiet_tick (below_is ∙ h))
             tells_stored
         fate_stored false h f =
             stays_now b open_before (ap (λ (v : RoomState P Q). v.current) f) number_is (not_opened w n m did o) (not_collected w n m did none_then)
             (ap (λ (v : RoomState P Q). numbered n v.waiting) f ∙ none_then) same.same_deadline
-            (none_of tT tA tB tC tD tF tE tH (not_yet t e c d) not_opening
-            (and_false_left (ticked_at m) _ quiet_tick) (and_false_left (ticked_at m) _ quiet_tick) (and_false_left (ticked_at m) _ quiet_tick) (and_false_left (ticked_at m) _ quiet_tick) (below_is ∙ h) not_halting)
+            (none_of tT tA (ticked_at m) _ _ _ _ tE tH (not_yet t e c d) not_opening
+            quiet_tick (below_is ∙ h) not_halting)
             tells_stored
 
       -- a tick is accepted
@@ -345,7 +341,7 @@ module _ {P T F Q : Type 0} (w : World P T F Q) (p : P) (q : Q) where
         tells_refloored : tick_cause a.values quote_now ≡ None → is_open n m.after ≡ true → Tells w p q n (m ∷ past) live.facts refloored.values
         tells_refloored h k =
             let was = live.tells in
-            let keeps : keeps_open n m ≡ true = both_true (is_open n m.before) _ open_before (both_true (is_open n m.after) _ k was_ticked) in
+            let keeps : keeps_open n m ≡ true = and_from (is_open n m.before) _ open_before (and_from (is_open n m.after) _ k was_ticked) in
             record {
               order_is = was.order_is;
               initiating_is = was.initiating_is;
@@ -361,7 +357,7 @@ module _ {P T F Q : Type 0} (w : World P T F Q) (p : P) (q : Q) where
             ends_now h a open_before shut (not_opened w n m did o) (not_collected w n m did none_then) i z
             (ap (λ (v : RoomState P Q). v.waiting) f ∙ ap (λ v. closed h v m.stepped.waiting) current_then ∙ ap (λ es. es ++ as_ended h a ∷ []) waiting_then)
             (cause_is ∙ k)
-            (tells_quiet (ap (λ (v : Answer F). told_terms v) y) (and_false_right (is_open n m.before) _ (and_false_left (is_open n m.after) _ shut)))
+            (tells_quiet (ap (λ (v : Answer F). told_terms v) y) (and_right (is_open n m.before) _ (and_left (is_open n m.after) _ shut)))
         fate_ticked None k f =
             let here : m.after.current ≡ Some refloored = ap (λ (v : RoomState P Q). v.current) f in
             stays_now refloored open_before here i (not_opened w n m did o) (not_collected w n m did none_then)
@@ -375,23 +371,25 @@ module _ {P T F Q : Type 0} (w : World P T F Q) (p : P) (q : Q) where
           let no_ticks : ticked_at m ≡ false = ap (λ (k : Answer F). is_accepted k && is_some (tick_in m.call)) y ∙ ap (λ (k : Call T). is_some (tick_in k)) j in
           ends_now Halted a open_before shut (not_opened w n m did o) (not_collected w n m did none_then) i z
           (ap (λ (v : RoomState P Q). v.waiting) f ∙ ap (λ v. closed Halted v m.stepped.waiting) current_then ∙ ap (λ es. es ++ as_ended Halted a ∷ []) waiting_then)
-          (halt_first tT tA tB tC tD tF tE tH (not_yet t e c d) (ap (λ (k : Answer F). is_some (opened_number k)) y)
-          (and_false_left (ticked_at m) _ no_ticks) (and_false_left (ticked_at m) _ no_ticks) (and_false_left (ticked_at m) _ no_ticks) (and_false_left (ticked_at m) _ no_ticks)
+          (halt_first tT tA (ticked_at m) _ _ _ _ tE tH (not_yet t e c d) (ap (λ (k : Answer F). is_some (opened_number k)) y)
+          no_ticks
           (ap (λ (k : Answer F). is_some (told_terms k) && plain_below live.facts.order.side (floor_of w p q n live.facts past) m.call) y)
           (ap (λ (k : Answer F). is_accepted k && is_halt m.call) y ∙ ap (λ (k : Call T). is_halt k) j))
           (tells_quiet (ap (λ (k : Answer F). told_terms k) y) (no_tick no_ticks))
 
       -- another auction is collected
-      fate_collected : (claim : ClaimNumbers) (rows : ℕ) (k : Collection) (fs : List FillRow) → m.call ≡ Collect claim rows → m.answer ≡ Collected k fs
-          → m.after ≡ with_waiting (without_number claim.auction m.stepped.waiting) m.stepped → Did w m → Fate n past m
-      fate_collected claim rows k fs j y f did =
+      fate_collected : CollectedHere w m → Did w m → Fate n past m
+      fate_collected here did =
+          let j = here.call_is in
+          let y = here.answer_is in
+          let f = here.after_is in
           let uncollected = not_collected w n m did none_then in
-          let other : eqb claim.auction n ≡ false = sym (ap (λ (v : Answer F). is_collected v && is_same n (claimed m.call)) y ∙ ap (λ (v : Call T). is_same n (claimed v)) j) ∙ uncollected in
+          let other : eqb here.claim.auction n ≡ false = sym (ap (λ (v : Answer F). is_collected v && is_same n (claimed m.call)) y ∙ ap (λ (v : Call T). is_same n (claimed v)) j) ∙ uncollected in
           let no_ticks : ticked_at m ≡ false = ap (λ (v : Answer F). is_accepted v && is_some (tick_in m.call)) y in
           stays_now a open_before (ap (λ (v : RoomState P Q). v.current) f ∙ current_then) i (not_opened w n m did o) uncollected
-          (ap (λ (v : RoomState P Q). numbered n v.waiting) f ∙ numbered_without_other claim.auction n m.stepped.waiting other ∙ none_then) refl
-          (none_of tT tA tB tC tD tF tE tH (not_yet t e c d) (ap (λ (v : Answer F). is_some (opened_number v)) y)
-          (and_false_left (ticked_at m) _ no_ticks) (and_false_left (ticked_at m) _ no_ticks) (and_false_left (ticked_at m) _ no_ticks) (and_false_left (ticked_at m) _ no_ticks)
+          (ap (λ (v : RoomState P Q). numbered n v.waiting) f ∙ numbered_without_other here.claim.auction n m.stepped.waiting other ∙ none_then) refl
+          (none_of tT tA (ticked_at m) _ _ _ _ tE tH (not_yet t e c d) (ap (λ (v : Answer F). is_some (opened_number v)) y)
+          no_ticks
           (ap (λ (v : Answer F). is_some (told_terms v) && plain_below live.facts.order.side (floor_of w p q n live.facts past) m.call) y)
           (ap (λ (v : Answer F). is_accepted v && is_halt m.call) y))
           (tells_quiet (ap (λ (v : Answer F). told_terms v) y) (no_tick no_ticks))
@@ -401,7 +399,7 @@ module _ {P T F Q : Type 0} (w : World P T F Q) (p : P) (q : Q) where
 
       fate_kept : Did w m → Did w m → Fate n past m
       fate_kept did (idle b f k) = fate_idle b f k did
-      fate_kept did (opened x r j y f g h k) = fate_opened x r y f did
+      fate_kept did (opened here) = fate_opened here did
       fate_kept did (stored u b x g y h same told sound f) =
           let is : u ≡ a = same_auction u g in
           fate_stored b x y (subst (λ v. SameButResponses v b) is same) (subst (λ (v : OpenAuction). told_of b.values ≡ stood_after m.call x (told_of v.values)) is told)
@@ -413,7 +411,7 @@ module _ {P T F Q : Type 0} (w : World P T F Q) (p : P) (q : Q) where
           fate_ticked g x j y did (tick_cause a.values (turned_quote a.values.order.side (w.market.shows next))) refl
           (f ∙ ap (λ v. ticked v (w.market.shows next) (at_position next m.stepped)) current_then)
       fate_kept did (halts g j y f) = fate_halted g j y f did
-      fate_kept did (collected claim rows x j u y f g) = fate_collected claim rows _ _ j y f did
+      fate_kept did (collected here) = fate_collected here did
 
     -- whatever the call
     pub fate : Did w m → Stepped m.before m.stepped → m.before.current ≡ Some a → eqb a.number n ≡ true → numbered n m.before.waiting ≡ None → n ≤ m.stepped.opened

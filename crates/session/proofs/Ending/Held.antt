@@ -1,29 +1,27 @@
 -- When an auction ends: what holds of a room and its history at every moment of a run, and the laws that follow from it.
-use Rattle.std.proofs.Common.{◌≡◌, ℕ, ◌+◌, ◌≤◌, Bool, true, false, cond, not, ◌&&◌, eqb, leb, List, [], ◌∷◌, is_some, Some, None, Ok, Option, Result, sym, refl, ap, ◌∙◌, arith}
-use lib.Signed.{lt_z}
+use Rattle.std.proofs.Common.{◌≡◌, ◌⊎◌, inl, inr, ℕ, ◌+◌, ◌≤◌, Bool, true, false, cond, not, ◌&&◌, eqb, List, [], ◌∷◌, is_some, Some, None, Option, Result, sym, refl, ap, ◌∙◌, arith}
+use Rattle.std.proofs.lemmas.Bool.{and_left}
 use Rattle.std.proofs.lemmas.Bool.Decides.{nat_tests as tests}
 use Rattle.market.specs.declared.refusal.RangeRefusal.{RangeRefusal}
 use Rattle.market.specs.Range.{RangePrices, permitted}
-use Rattle.market.specs.Turned.{turned}
 use Rattle.interval.specs.Source.{WithinLimits}
 use Rattle.allocation.specs.declared.cause.EndCause.TheVariants.{NextAuction}
-use Rattle.room.specs.declared.requests.OpeningRequest.{OpeningRequest}
+use Rattle.allocation.specs.declared.order.PairedOrder.{PairedOrder}
 use Rattle.room.specs.Clock.{due}
-use Rattle.room.specs.Openings.{opened_with, new_auction}
+use Rattle.room.specs.Openings.{new_auction}
 use Rattle.room.specs.State.{OpenAuction, EndedAuction, RoomState, new_room, numbered, without_number}
 use Rattle.room.specs.World.{World}
 use Rattle.session.specs.declared.calls.Call.{Call}
-use Rattle.session.specs.declared.calls.Call.TheVariants.{Open}
 use Rattle.session.specs.Ending.{openings, collectings, held_in}
 use Rattle.session.specs.History.{OpeningFacts, is_open, ends_at, opens, collects, opened_number, is_accepted, is_collected, is_same, claimed, tick_in, order_in, times_ended, was_collected, stood_in, opening_of, facts_then, facts_by, floor_of, market_at, source_at, position_then}
-use Rattle.session.specs.Runs.{Answer, Opened, Moment, given_time, input_refusal, moment, step}
+use Rattle.session.specs.Runs.{Answer, Moment, given_time, input_refusal, moment, step}
 use Rattle.session.proofs.Ending.Counted.{Counted, same, more, fewer, counted_by, position_by, stepped_held}
 use Rattle.session.proofs.Ending.Elsewhere.{Elsewhere, stepped_elsewhere, both_elsewhere, did_elsewhere, not_opened, not_collected}
 use Rattle.session.proofs.Ending.Fates.{Fate, stays, ends, fate}
 use Rattle.session.proofs.Ending.Lives.{Stepped, stepped_by, stepped_opened, stepped_position, stepped_source, stepped_number, stepped_not_due, Alive, Over, Life, unborn, alive, waiting, gone, opening_kept, ended_kept, collected_kept, collected_now, floor_kept, stood_closed, over_kept}
-use Rattle.session.proofs.Ending.Shapes.{Did, idle, opened, stored, ticks, halts, collected, did}
+use Rattle.session.proofs.Ending.Shapes.{Did, OpenedHere, CollectedHere, opened_or_not, collected_or_not, did}
 use Rattle.room.proofs.Sound.{new_sound, permitted_ordered}
-use Rattle.room.proofs.Tests.{true_false, and_false_left}
+use Rattle.room.proofs.Tests.{true_false}
 use Rattle.session.proofs.Ending.Waiting.{Once, closed_other}
 
 module _ {P T F Q : Type 0} (w : World P T F Q) (drawn : WithinLimits w.source) (number : ℕ) (p : P) (q : Q) where
@@ -75,7 +73,7 @@ module _ {P T F Q : Type 0} (w : World P T F Q) (drawn : WithinLimits w.source) 
         both_elsewhere n m.before m.stepped m.after first (did_elsewhere w n m business first.still_closed o c)
 
     pub not_ending : (n : ℕ) → is_open n m.before ≡ false → ends_at n m ≡ false
-    not_ending n k = and_false_left (is_open n m.before) (not (is_open n m.after)) k
+    not_ending n k = and_left (is_open n m.before) (not (is_open n m.after)) k
 
     shut_then : (n : ℕ) → is_open n m.before ≡ false → is_open n m.stepped ≡ false
     shut_then n k = (stepped_elsewhere n m.before m.stepped clock k).still_closed
@@ -93,17 +91,17 @@ module _ {P T F Q : Type 0} (w : World P T F Q) (drawn : WithinLimits w.source) 
         up (let i = opened_then in let less : n ≤ m.stepped.opened = grind (arith, tests) in omega arith)
 
     -- An auction that the call opens.
-    module _ (n : ℕ) (x : OpeningRequest) (r : RangePrices) (o : opens n m ≡ true) (j : m.call ≡ Open x) (y : m.answer ≡ Opened (record { room = m.stepped.number; auction = m.stepped.opened + 1 }))
-        (f : m.after ≡ opened_with w m.stepped x.order r)
-        (g : permitted x.order.side x.order.limit (w.market.shows m.stepped.position) ≡ Ok r)
-        (i : lt_z r.initiating (turned x.order.side x.order.guarantee.price) ≡ false) (z : leb 1 x.order.size ≡ true)
+    module _ (n : ℕ) (d : OpenedHere w m) (o : opens n m ≡ true)
         (k : is_open n m.before ≡ false) (v : numbered n m.before.waiting ≡ None) (te : times_ended n past ≡ 0) (wc : was_collected n past ≡ false)
         (fl : (f : OpeningFacts) → floor_of w p q n f past ≡ f.range.floor) (st : stood_in n past ≡ []) where
+      abbrev order : PairedOrder
+      order = d.request.order
+
       abbrev new : OpenAuction
-      new = new_auction w m.stepped x.order r
+      new = new_auction w m.stepped order d.range
 
       abbrev new_facts : OpeningFacts
-      new_facts = record { order = x.order; range = r; time = m.after.time; interval = w.source.draws (source_at w p q past) }
+      new_facts = record { order = order; range = d.range; time = m.after.time; interval = w.source.draws (source_at w p q past) }
 
       position_then_is : m.stepped.position ≡ market_at w p q past
       position_then_is = stepped_position m.before m.stepped clock ∙ h.position_is
@@ -114,9 +112,9 @@ module _ {P T F Q : Type 0} (w : World P T F Q) (drawn : WithinLimits w.source) 
       opening_is : opening_of w p q n (m ∷ past) ≡ Some new_facts
       opening_is =
           ap (λ (b : Bool). cond b (facts_then w p q (order_in m.call) past m.after.time) (opening_of w p q n past)) o
-          ∙ ap (λ (c : Call T). facts_then w p q (order_in c) past m.after.time) j
-          ∙ ap (λ (e : Result RangePrices RangeRefusal). facts_by x.order e m.after.time (w.source.draws (source_at w p q past)))
-          (ap (λ e. permitted x.order.side x.order.limit (w.market.shows e)) (sym position_then_is) ∙ g)
+          ∙ ap (λ (c : Call T). facts_then w p q (order_in c) past m.after.time) d.call_is
+          ∙ ap (λ (e : Result RangePrices RangeRefusal). facts_by order e m.after.time (w.source.draws (source_at w p q past)))
+          (ap (λ e. permitted order.side order.limit (w.market.shows e)) (sym position_then_is) ∙ d.permitted_then)
 
       none_collected : collects n m ≡ false
       none_collected = not_collected w n m business (none_stepped n k v)
@@ -125,66 +123,58 @@ module _ {P T F Q : Type 0} (w : World P T F Q) (drawn : WithinLimits w.source) 
       new_alive = record {
         facts = new_facts;
         opened_as = opening_is;
-        deadline_is = ap (λ e. m.stepped.time + w.source.draws e) source_then_is ∙ ap (λ (e : RoomState P Q). e.time + w.source.draws (source_at w p q past)) (sym f);
+        deadline_is = ap (λ e. m.stepped.time + w.source.draws e) source_then_is ∙ ap (λ (e : RoomState P Q). e.time + w.source.draws (source_at w p q past)) (sym d.after_is);
         at_least = (drawn (source_at w p q past)).0;
         at_most = (drawn (source_at w p q past)).1;
         tells = record {
           order_is = refl;
           initiating_is = refl;
-          floor_is = sym (floor_kept w p q n past m new_facts (and_false_left (is_open n m.before) _ k) ∙ fl new_facts);
+          floor_is = sym (floor_kept w p q n past m new_facts (and_left (is_open n m.before) _ k) ∙ fl new_facts);
           stood_is = sym (stood_closed w p q n past m (shut_then n k) ∙ st);
-          sound = new_sound x.order r z (permitted_ordered x.order.side x.order.limit (w.market.shows m.stepped.position) r g) i;
+          sound = new_sound order d.range d.sized (permitted_ordered order.side order.limit (w.market.shows m.stepped.position) d.range d.permitted_then) d.guaranteed;
         };
         unended = ended_kept w p q n past m (not_ending n k) ∙ te;
         uncollected = collected_kept w p q n past m none_collected ∙ wc;
       }
 
       number_told : eqb (m.stepped.opened + 1) n ≡ true
-      number_told = sym (ap (λ (e : Answer F). is_same n (opened_number e)) y) ∙ o
+      number_told = sym (ap (λ (e : Answer F). is_same n (opened_number e)) d.answer_is) ∙ o
 
       new_life : Life w p q n (m ∷ past) m.after
       new_life =
           let shut = (stepped_elsewhere n m.before m.stepped clock k).still_closed in
-          alive new (ap (λ (e : RoomState P Q). e.current) f) number_told
-          (ap (λ (e : RoomState P Q). numbered n e.waiting) f ∙ closed_other NextAuction n m.stepped.current m.stepped.waiting shut ∙ none_stepped n k v)
-          (let e = ap (λ (e : RoomState P Q). e.opened) f in let told = number_told in let is : n ≡ m.stepped.opened + 1 = grind (arith, tests) in omega arith)
+          alive new (ap (λ (e : RoomState P Q). e.current) d.after_is) number_told
+          (ap (λ (e : RoomState P Q). numbered n e.waiting) d.after_is ∙ closed_other NextAuction n m.stepped.current m.stepped.waiting shut ∙ none_stepped n k v)
+          (let e = ap (λ (e : RoomState P Q). e.opened) d.after_is in let told = number_told in let is : n ≡ m.stepped.opened + 1 = grind (arith, tests) in omega arith)
           new_alive
 
-    unborn_opens : (n : ℕ) → Did w m → opens n m ≡ true → is_open n m.before ≡ false → numbered n m.before.waiting ≡ None → times_ended n past ≡ 0 → was_collected n past ≡ false
+    unborn_opens : (n : ℕ) → OpenedHere w m ⊎ (opened_number m.answer ≡ None) → opens n m ≡ true → is_open n m.before ≡ false → numbered n m.before.waiting ≡ None → times_ended n past ≡ 0 → was_collected n past ≡ false
         → ((f : OpeningFacts) → floor_of w p q n f past ≡ f.range.floor) → stood_in n past ≡ [] → Life w p q n (m ∷ past) m.after
-    unborn_opens n (idle b e a) o k v te wc fl st = true_false (sym o ∙ ap (is_same n) a.opens_none)
-    unborn_opens n (opened x r j y f g i z) o k v te wc fl st = new_life n x r o j y f g i z k v te wc fl st
-    unborn_opens n (stored a b t e y g like told sound f) o k v te wc fl st = true_false (sym o ∙ ap (λ (e : Answer F). is_same n (opened_number e)) y)
-    unborn_opens n (ticks t x j y f) o k v te wc fl st = true_false (sym o ∙ ap (λ (e : Answer F). is_same n (opened_number e)) y)
-    unborn_opens n (halts t j y f) o k v te wc fl st = true_false (sym o ∙ ap (λ (e : Answer F). is_same n (opened_number e)) y)
-    unborn_opens n (collected claim rows x j u y f g) o k v te wc fl st = true_false (sym o ∙ ap (λ (e : Answer F). is_same n (opened_number e)) y)
+    unborn_opens n (inl d) o k v te wc fl st = new_life n d o k v te wc fl st
+    unborn_opens n (inr none) o k v te wc fl st = true_false (sym o ∙ ap (is_same n) none)
 
     unborn_next : (n : ℕ) (b : Bool) → opens n m ≡ b → opening_of w p q n past ≡ None → is_open n m.before ≡ false → numbered n m.before.waiting ≡ None → times_ended n past ≡ 0 → was_collected n past ≡ false
         → (n ≤ m.before.opened → n ≡ 0) → ((f : OpeningFacts) → floor_of w p q n f past ≡ f.range.floor) → stood_in n past ≡ [] → Life w p q n (m ∷ past) m.after
-    unborn_next n true e o k v te wc up fl st = unborn_opens n business e k v te wc fl st
+    unborn_next n true e o k v te wc up fl st = unborn_opens n (opened_or_not w m business) e k v te wc fl st
     unborn_next n false e o k v te wc up fl st =
         let none = not_collected w n m business (none_stepped n k v) in
         let away = aside n k e none in
         unborn (opening_kept w p q n past m e ∙ o) away.still_closed (away.same_waiting ∙ v) (ended_kept w p q n past m (not_ending n k) ∙ te) (collected_kept w p q n past m none ∙ wc)
-        (no_number n tally e up) (λ f. floor_kept w p q n past m f (and_false_left (is_open n m.before) _ k) ∙ fl f) (stood_closed w p q n past m (shut_then n k) ∙ st)
+        (no_number n tally e up) (λ f. floor_kept w p q n past m f (and_left (is_open n m.before) _ k) ∙ fl f) (stood_closed w p q n past m (shut_then n k) ∙ st)
 
     -- An auction that waits.
-    collected_life : (n : ℕ) → Did w m → collects n m ≡ true → Once n m.stepped.waiting → is_open n m.before ≡ false → is_open n m.stepped ≡ false → n ≤ m.before.opened → times_ended n past ≡ 1 → Life w p q n (m ∷ past) m.after
-    collected_life n (collected claim rows x j u y f g) c once k shut o te =
-        let told : eqb claim.auction n ≡ true = sym (ap (λ (e : Answer F). is_collected e && is_same n (claimed m.call)) y ∙ ap (λ (e : Call T). is_same n (claimed e)) j) ∙ c in
-        let is : claim.auction ≡ n = grind (arith, tests) in
-        gone (ap (λ (e : RoomState P Q). numbered n e.waiting) f ∙ ap (λ i. numbered n (without_number i m.stepped.waiting)) is ∙ once)
-        (ap (λ (e : RoomState P Q). is_open n e) f ∙ shut) (later n o) (ended_kept w p q n past m (not_ending n k) ∙ te) (collected_now w p q n past m c)
-    collected_life n (idle b e a) c once k shut o te = true_false (sym c ∙ ap (λ (b : Bool). b && is_same n (claimed m.call)) a.collects_none)
-    collected_life n (opened x r j y f g i z) c once k shut o te = true_false (sym c ∙ ap (λ (e : Answer F). is_collected e && is_same n (claimed m.call)) y)
-    collected_life n (stored a b t e y g like told sound f) c once k shut o te = true_false (sym c ∙ ap (λ (e : Answer F). is_collected e && is_same n (claimed m.call)) y)
-    collected_life n (ticks t x j y f) c once k shut o te = true_false (sym c ∙ ap (λ (e : Answer F). is_collected e && is_same n (claimed m.call)) y)
-    collected_life n (halts t j y f) c once k shut o te = true_false (sym c ∙ ap (λ (e : Answer F). is_collected e && is_same n (claimed m.call)) y)
+    collected_life : (n : ℕ) → CollectedHere w m ⊎ (is_collected m.answer ≡ false) → collects n m ≡ true → Once n m.stepped.waiting → is_open n m.before ≡ false → is_open n m.stepped ≡ false → n ≤ m.before.opened → times_ended n past ≡ 1 → Life w p q n (m ∷ past) m.after
+    collected_life n (inl d) c once k shut o te =
+        let told : eqb d.claim.auction n ≡ true = sym (ap (λ (e : Answer F). is_collected e && is_same n (claimed m.call)) d.answer_is ∙ ap (λ (e : Call T). is_same n (claimed e)) d.call_is) ∙ c in
+        let is : d.claim.auction ≡ n = grind (arith, tests) in
+        gone (ap (λ (e : RoomState P Q). numbered n e.waiting) d.after_is ∙ ap (λ i. numbered n (without_number i m.stepped.waiting)) is ∙ once)
+        (ap (λ (e : RoomState P Q). is_open n e) d.after_is ∙ shut) (later n o) (ended_kept w p q n past m (not_ending n k) ∙ te) (collected_now w p q n past m c)
+    collected_life n (inr none) c once k shut o te = true_false (sym c ∙ ap (λ (b : Bool). b && is_same n (claimed m.call)) none)
 
     waiting_next : (n : ℕ) (b : Bool) → collects n m ≡ b → (e : EndedAuction) → numbered n m.before.waiting ≡ Some e → Once n m.before.waiting → is_open n m.before ≡ false → n ≤ m.before.opened → Over w p q n past e → Life w p q n (m ∷ past) m.after
     waiting_next n true c e z once k o v =
         let first = stepped_elsewhere n m.before m.stepped clock k in
-        collected_life n business c (first.still_once once) k first.still_closed o v.ended_once
+        collected_life n (collected_or_not w m business) c (first.still_once once) k first.still_closed o v.ended_once
     waiting_next n false c e z once k o v =
         let unopened = not_opened w n m business (earlier n o) in
         let away = aside n k unopened c in

@@ -1,5 +1,6 @@
 -- The laws on when an auction ends, from what holds at every moment of a run.
-use Rattle.std.proofs.Common.{◌≡◌, ℕ, ◌+◌, ◌<◌, ◌≤◌, max, Bool, true, false, cond, not, ◌&&◌, eqb, ltb, leb, List, [], ◌∷◌, length, is_some, Some, None, Ok, Option, Result, sym, refl, ap, ◌∙◌, subst, arith}
+use Rattle.std.proofs.Common.{◌≡◌, ◌⊎◌, inl, inr, ℕ, ◌+◌, ◌<◌, ◌≤◌, max, Bool, true, false, cond, not, ◌&&◌, eqb, ltb, leb, List, [], ◌∷◌, length, is_some, Some, None, Ok, Option, Result, sym, refl, ap, ◌∙◌, subst, arith}
+use Rattle.std.proofs.lemmas.Bool.{and_from, and_parts, and_right, not-true}
 use Rattle.std.proofs.lemmas.Bool.Decides.{nat_tests as tests}
 use Rattle.interval.specs.Source.{WithinLimits}
 use Rattle.allocation.specs.declared.cause.EndCause.TheVariants.{Deadline, Halt as Halted}
@@ -24,9 +25,9 @@ use Rattle.session.proofs.Ending.Counted.{Counted, same, more, fewer}
 use Rattle.session.proofs.Ending.Elsewhere.{stepped_elsewhere}
 use Rattle.session.proofs.Ending.Held.{Holds, holds_new, holds_after, clock_of, tally, earlier, fate_of, not_ending}
 use Rattle.session.proofs.Ending.Fates.{Fate, stays, ends, expired_ends}
-use Rattle.session.proofs.Ending.Lives.{Stepped, kept, expired, clocked_time, Alive, Over, Life, unborn, alive, waiting, gone, ended_kept}
-use Rattle.session.proofs.Ending.Shapes.{Did, idle, opened, stored, ticks, halts, collected, did}
-use Rattle.room.proofs.Tests.{true_false, none_some, and_false_right, both_true, left_true, right_true}
+use Rattle.session.proofs.Ending.Lives.{Stepped, kept, expired, unstepped, clocked_time, Alive, Over, Life, unborn, alive, waiting, gone, ended_kept}
+use Rattle.session.proofs.Ending.Shapes.{OpenedHere, CollectedHere, opened_or_not, collected_or_not, did}
+use Rattle.room.proofs.Tests.{true_false, none_some}
 
 -- the clock step done twice is the clock step
 max_again : (a t : ℕ) → max (max a t) t ≡ max a t
@@ -46,10 +47,6 @@ module _ {P Q : Type 0} where
   timed_again : {Y R : Type 0} (k : Option R) (s : RoomState P Q) (t : ℕ) (f : RoomState P Q → RoomState P Q × Result Y R) → timed k (clock_stepped k (Some t) s) t f ≡ timed k s t f
   timed_again None s t f = ap f (clocked_twice s t)
   timed_again (Some e) s t f = refl
-
-  unstepped : {R : Type 0} (k : Option R) (s : RoomState P Q) → clock_stepped k None s ≡ s
-  unstepped None s = refl
-  unstepped (Some e) s = refl
 
 -- a call does to the room as its clock step left it what it does to the room before
 business_after : {P T F Q : Type 0} (w : World P T F Q) (s : RoomState P Q) (c : Call T) → step w (clock_stepped (input_refusal {F = F} c) (given_time c) s) c ≡ step w s c
@@ -143,27 +140,23 @@ module _ {P T F Q : Type 0} (w : World P T F Q) (drawn : WithinLimits w.source) 
     soon_by n k x (waiting a z once y o v) = true_false (sym k ∙ y)
     soon_by n k x (gone z y o te wc) = true_false (sym k ∙ y)
 
-    not_false : (b : Bool) → not b ≡ true → b ≡ false
-    not_false true e = sym e
-    not_false false e = refl
-
     not_too_soon : NotByTimeTooSoon w number p q past m
-    not_too_soon n e = soon_by n (left_true (is_open n s) _ e) (not_false (is_open n m.stepped) (right_true (is_open n s) _ e)) (h.lives n)
+    not_too_soon n e = let shut = and_parts (is_open n s) _ e in soon_by n shut.0 (not-true (is_open n m.stepped) shut.1) (h.lives n)
 
     -- Ended, not vanished.
     waits_by : (n : ℕ) (v : RoomState P Q) (ms : List (Moment P T F Q)) → Life w p q n ms v → (not (is_open n v) && is_some (numbered n v.waiting)) ≡ (ltb 0 (times_ended n ms) && not (was_collected n ms))
     waits_by n v ms (unborn o x z te wc up fl st) =
-        and_false_right (not (is_open n v)) _ (ap is_some z) ∙ sym (ap (λ k. ltb 0 k && not (was_collected n ms)) te)
+        and_right (not (is_open n v)) _ (ap is_some z) ∙ sym (ap (λ k. ltb 0 k && not (was_collected n ms)) te)
     waits_by n v ms (alive a x i z o live) =
-        and_false_right (not (is_open n v)) _ (ap is_some z) ∙ sym (ap (λ k. ltb 0 k && not (was_collected n ms)) live.unended)
+        and_right (not (is_open n v)) _ (ap is_some z) ∙ sym (ap (λ k. ltb 0 k && not (was_collected n ms)) live.unended)
     waits_by n v ms (waiting e z once x o over) =
         ap (λ (b : Bool). not b && is_some (numbered n v.waiting)) x ∙ ap is_some z ∙ sym (ap (λ k. ltb 0 k && not (was_collected n ms)) over.ended_once ∙ ap not over.uncollected)
     waits_by n v ms (gone z x o te wc) =
-        and_false_right (not (is_open n v)) _ (ap is_some z) ∙ sym (ap (λ k. ltb 0 k && not (was_collected n ms)) te ∙ ap not wc)
+        and_right (not (is_open n v)) _ (ap is_some z) ∙ sym (ap (λ k. ltb 0 k && not (was_collected n ms)) te ∙ ap not wc)
 
     waits_alone : (n : ℕ) (v : RoomState P Q) (ms : List (Moment P T F Q)) → Life w p q n ms v → is_some (numbered n v.waiting) ≡ (not (is_open n v) && is_some (numbered n v.waiting))
     waits_alone n v ms (unborn o x z te wc up fl st) = sym (ap (λ (b : Bool). not b && is_some (numbered n v.waiting)) x)
-    waits_alone n v ms (alive a x i z o live) = ap is_some z ∙ sym (and_false_right (not (is_open n v)) _ (ap is_some z))
+    waits_alone n v ms (alive a x i z o live) = ap is_some z ∙ sym (and_right (not (is_open n v)) _ (ap is_some z))
     waits_alone n v ms (waiting e z once x o over) = sym (ap (λ (b : Bool). not b && is_some (numbered n v.waiting)) x)
     waits_alone n v ms (gone z x o te wc) = sym (ap (λ (b : Bool). not b && is_some (numbered n v.waiting)) x)
 
@@ -177,16 +170,12 @@ module _ {P T F Q : Type 0} (w : World P T F Q) (drawn : WithinLimits w.source) 
     numbered_by n (fewer a b x d k f g) e = none_some n (sym a ∙ e)
 
   -- what an accepted opening opens
-  opened_open : (m : Moment P T F Q) (n : ℕ) → Did w m → opened_number m.answer ≡ Some n → is_open n m.after ≡ true
-  opened_open m n (idle b e k) h = none_some n (sym k.opens_none ∙ h)
-  opened_open m n (opened x r j y f g i z) h =
-      let told = sym (ap (λ (k : Answer F). opened_number k) y) ∙ h in
+  opened_open : (m : Moment P T F Q) (n : ℕ) → OpenedHere w m ⊎ (opened_number m.answer ≡ None) → opened_number m.answer ≡ Some n → is_open n m.after ≡ true
+  opened_open m n (inl d) h =
+      let told = sym (ap (λ (k : Answer F). opened_number k) d.answer_is) ∙ h in
       let is : m.stepped.opened + 1 ≡ n = cc in
-      ap (λ (v : RoomState P Q). is_open n v) f ∙ (let test : eqb (m.stepped.opened + 1) n ≡ true = grind (arith, tests) in test)
-  opened_open m n (stored a b t e y g like told sound f) h = none_some n (sym (ap (λ (k : Answer F). opened_number k) y) ∙ h)
-  opened_open m n (ticks t x j y f) h = none_some n (sym (ap (λ (k : Answer F). opened_number k) y) ∙ h)
-  opened_open m n (halts t j y f) h = none_some n (sym (ap (λ (k : Answer F). opened_number k) y) ∙ h)
-  opened_open m n (collected claim rows x j u y f g) h = none_some n (sym (ap (λ (k : Answer F). opened_number k) y) ∙ h)
+      ap (λ (v : RoomState P Q). is_open n v) d.after_is ∙ (let test : eqb (m.stepped.opened + 1) n ≡ true = grind (arith, tests) in test)
+  opened_open m n (inr none) h = none_some n (sym none ∙ h)
 
   in_range : (n : ℕ) (v : RoomState P Q) (ms : List (Moment P T F Q)) → is_open n v ≡ true → Life w p q n ms v → is_some (opening_of w p q n ms) ≡ true
   in_range n v ms k (unborn o x z te wc up fl st) = true_false (sym k ∙ x)
@@ -223,15 +212,15 @@ module _ {P T F Q : Type 0} (w : World P T F Q) (drawn : WithinLimits w.source) 
           waits_until_collected = λ n. waits_alone past s c h n (step w s c).0 (moment w s c ∷ past) (next.lives n) ∙ waits_by past s c h n (step w s c).0 (moment w s c ∷ past) (next.lives n);
           none_lost = next.none_lost;
           counted_from_one = λ n. numbered_by past s c h n (tally w drawn number p q past (moment w s c) h (clock past s c h) (did w s c));
-          opens_in_a_range = λ n e. let here = opened_open (moment w s c) n (did w s c) e in (here, in_range n (step w s c).0 (moment w s c ∷ past) here (next.lives n));
+          opens_in_a_range = λ n e. let here = opened_open (moment w s c) n (opened_or_not w (moment w s c) (did w s c)) e in (here, in_range n (step w s c).0 (moment w s c ∷ past) here (next.lives n));
           collected_when_due = when_due;
         }
 
     -- For its causes and no others.
     caused_by : (n : ℕ) → is_open n s ≡ true → Fate w p q n past (moment w s c) → ends_at n (moment w s c) ≡ is_some (cause_at w p q n past (moment w s c))
     caused_by n k (stays a e f i z live) =
-        and_false_right (is_open n s) _ (ap not (ap (is_number n) f ∙ i)) ∙ sym (ap is_some e)
-    caused_by n k (ends e) = both_true (is_open n s) _ k (ap not e.shut) ∙ sym (ap is_some e.caused)
+        and_right (is_open n s) _ (ap not (ap (is_number n) f ∙ i)) ∙ sym (ap is_some e)
+    caused_by n k (ends e) = and_from (is_open n s) _ k (ap not e.shut) ∙ sym (ap is_some e.caused)
 
     caused_live : (n : ℕ) → is_open n s ≡ true → Life w p q n past s → ends_at n (moment w s c) ≡ is_some (cause_at w p q n past (moment w s c))
     caused_live n k (unborn o x v te wc up fl st) = true_false (sym k ∙ x)
@@ -246,22 +235,18 @@ module _ {P T F Q : Type 0} (w : World P T F Q) (drawn : WithinLimits w.source) 
     waits_over n e k (waiting f z once x o v) = let is : f ≡ e = cc in subst (Over w p q n past) is v
     waits_over n e k (gone z x o te wc) = none_some e (sym z ∙ k)
 
-    told_by : (auction : ℕ) → Did w (moment w s c) → (room rows : ℕ) → c ≡ Collect (record { room = room; auction = auction }) rows → is_collected (step w s c).1 ≡ true
+    told_by : (auction : ℕ) → CollectedHere w (moment w s c) ⊎ (is_collected (step w s c).1 ≡ false) → (room rows : ℕ) → c ≡ Collect (record { room = room; auction = auction }) rows → is_collected (step w s c).1 ≡ true
         → told_cause (step w s c).1 ≡ cause_of w p q auction past
-    told_by auction (collected claim length x j u y f g) room rows e k =
-        let is : claim.auction ≡ auction = ap (λ (z : ClaimNumbers). z.auction) (let same : claim ≡ record { room = room; auction = auction } = cc in same) in
-        let at : numbered auction s.waiting ≡ Some x = ap (λ (z : RoomState P Q). numbered auction z.waiting) (sym u) ∙ ap (λ i. numbered i (moment w s c).stepped.waiting) (sym is) ∙ g in
-        ap (λ (z : Answer F). told_cause z) y ∙ sym (waits_over auction x at (h.lives auction)).cause_is
-    told_by auction (idle b e a) room rows j k = true_false (sym k ∙ a.collects_none)
-    told_by auction (opened x r j y f g i z) room rows e k = true_false (sym k ∙ ap (λ (z : Answer F). is_collected z) y)
-    told_by auction (stored a b t x y g like told sound f) room rows e k = true_false (sym k ∙ ap (λ (z : Answer F). is_collected z) y)
-    told_by auction (ticks t x j y f) room rows e k = true_false (sym k ∙ ap (λ (z : Answer F). is_collected z) y)
-    told_by auction (halts t j y f) room rows e k = true_false (sym k ∙ ap (λ (z : Answer F). is_collected z) y)
+    told_by auction (inl d) room rows e k =
+        let is : d.claim.auction ≡ auction = ap (λ (z : ClaimNumbers). z.auction) (let same : d.claim ≡ record { room = room; auction = auction } = let j = d.call_is in cc in same) in
+        let at : numbered auction s.waiting ≡ Some d.auction = ap (λ (z : RoomState P Q). numbered auction z.waiting) (sym d.no_clock_step) ∙ ap (λ i. numbered i (moment w s c).stepped.waiting) (sym is) ∙ d.waited in
+        ap (λ (z : Answer F). told_cause z) d.answer_is ∙ sym (waits_over auction d.auction at (h.lives auction)).cause_is
+    told_by auction (inr none) room rows e k = true_false (sym k ∙ none)
 
     for_its_causes : EndedForItsCauses w number p q past (moment w s c)
     for_its_causes = record {
       ends_when_caused = λ n k. caused_live n k (h.lives n);
-      tells_the_cause = λ room auction rows e k. told_by auction (did w s c) room rows e k;
+      tells_the_cause = λ room auction rows e k. told_by auction (collected_or_not w (moment w s c) (did w s c)) room rows e k;
     }
 
 -- of every run

@@ -1,6 +1,7 @@
 -- The life of an auction, as its history tells it and as the room holds it: not yet opened, open, waiting, collected. What
 -- the history tells of an auction stays as it is while the auction is not open.
 use Rattle.std.proofs.Common.{◌≡◌, ℕ, ◌+◌, ◌≤◌, max, Bool, true, false, cond, not, ◌&&◌, ◌||◌, eqb, leb, List, [], ◌∷◌, map, ℤ, Some, None, Option, sym, refl, ap, ◌∙◌, arith}
+use Rattle.std.proofs.lemmas.Bool.{and_left}
 use lib.Signed.{lt_z}
 use Rattle.market.specs.declared.side.Side.{Side}
 use Rattle.allocation.proofs.Mates.{turned_twice}
@@ -21,7 +22,7 @@ use Rattle.room.specs.World.{World}
 use Rattle.session.specs.History.{OpeningFacts, deadline_of, is_open, ends_at, opens, collects, keeps_open, times_ended, was_collected, stood_in, stood_answered, told_terms, opening_of, facts_then, order_in, floor_of, shown_to, cause_at, cause_of, is_above, is_below, shown_or, stop_passed, is_plain_kind, above_one}
 use Rattle.session.specs.Runs.{Moment, clock_stepped}
 use Rattle.room.proofs.Sound.{Sound}
-use Rattle.room.proofs.Tests.{true_false, and_false_left}
+use Rattle.room.proofs.Tests.{true_false}
 use Rattle.session.proofs.Ending.Waiting.{Once}
 
 -- What the clock step does: it moves the time, and no deadline is reached; or it ends the open auction.
@@ -40,6 +41,11 @@ module _ {P Q : Type 0} where
   stepped_by None None s h = kept s.time refl h
   stepped_by None (Some t) s h = stepped_due (due (max s.time t) s.current) (max s.time t) s.current s refl refl
 
+  -- where no time is given, there is no clock step
+  pub unstepped : {R : Type 0} (k : Option R) (s : RoomState P Q) → clock_stepped k None s ≡ s
+  unstepped None s = refl
+  unstepped (Some e) s = refl
+
   clocked_time_by : (b : Bool) (t : ℕ) (s : RoomState P Q) → (cond b (ended Deadline (at_time t s)) (at_time t s)).time ≡ t
   clocked_time_by true t s = refl
   clocked_time_by false t s = refl
@@ -48,22 +54,23 @@ module _ {P Q : Type 0} where
   pub clocked_time : (s : RoomState P Q) (t : ℕ) → (clocked s t).time ≡ max s.time t
   clocked_time s t = clocked_time_by (due (max s.time t) s.current) (max s.time t) s
 
-  -- and leaves the rest
+  -- and leaves what neither the time nor an end changes
+  stepped_keeps : {X : Type 0} (f : RoomState P Q → X) → ((t : ℕ) (s : RoomState P Q) → f (at_time t s) ≡ f s) → ((s : RoomState P Q) → f (ended Deadline s) ≡ f s)
+      → (s u : RoomState P Q) → Stepped s u → f u ≡ f s
+  stepped_keeps f moves ends s u (kept t e h) = ap f e ∙ moves t s
+  stepped_keeps f moves ends s u (expired t a c h e) = ap f e ∙ ends (at_time t s) ∙ moves t s
+
   pub stepped_opened : (s u : RoomState P Q) → Stepped s u → u.opened ≡ s.opened
-  stepped_opened s u (kept t e h) = ap (λ (z : RoomState P Q). z.opened) e
-  stepped_opened s u (expired t a c h e) = ap (λ (z : RoomState P Q). z.opened) e
+  stepped_opened = stepped_keeps (λ z. z.opened) (λ t s. refl) (λ s. refl)
 
   pub stepped_position : (s u : RoomState P Q) → Stepped s u → u.position ≡ s.position
-  stepped_position s u (kept t e h) = ap (λ (z : RoomState P Q). z.position) e
-  stepped_position s u (expired t a c h e) = ap (λ (z : RoomState P Q). z.position) e
+  stepped_position = stepped_keeps (λ z. z.position) (λ t s. refl) (λ s. refl)
 
   pub stepped_source : (s u : RoomState P Q) → Stepped s u → u.source ≡ s.source
-  stepped_source s u (kept t e h) = ap (λ (z : RoomState P Q). z.source) e
-  stepped_source s u (expired t a c h e) = ap (λ (z : RoomState P Q). z.source) e
+  stepped_source = stepped_keeps (λ z. z.source) (λ t s. refl) (λ s. refl)
 
   pub stepped_number : (s u : RoomState P Q) → Stepped s u → u.number ≡ s.number
-  stepped_number s u (kept t e h) = ap (λ (z : RoomState P Q). z.number) e
-  stepped_number s u (expired t a c h e) = ap (λ (z : RoomState P Q). z.number) e
+  stepped_number = stepped_keeps (λ z. z.number) (λ t s. refl) (λ s. refl)
 
   -- what is open after it is not due
   pub stepped_not_due : (s u : RoomState P Q) → Stepped s u → due u.time u.current ≡ false
@@ -182,14 +189,14 @@ module _ {P T F Q : Type 0} (w : World P T F Q) (p : P) (q : Q) where
     tells_kept f v h k t = record {
       order_is = t.order_is;
       initiating_is = t.initiating_is;
-      floor_is = t.floor_is ∙ sym (floor_kept f (and_false_left (is_open n m.before) _ h));
+      floor_is = t.floor_is ∙ sym (floor_kept f (and_left (is_open n m.before) _ h));
       stood_is = t.stood_is ∙ sym (stood_closed k);
       sound = t.sound;
     }
 
     pub over_kept : (e : EndedAuction) → is_open n m.before ≡ false → is_open n m.stepped ≡ false → opens n m ≡ false → collects n m ≡ false → Over n past e → Over n (m ∷ past) e
     over_kept e h k o c v =
-        let still = and_false_left (is_open n m.before) (not (is_open n m.after)) h in
+        let still = and_left (is_open n m.before) (not (is_open n m.after)) h in
         record {
           facts = v.facts;
           opened_as = opening_kept o ∙ v.opened_as;

@@ -1,7 +1,9 @@
 -- What a call does to a room, in few shapes: it leaves the auctions alone, opens one, stores, changes or withdraws a
 -- response, takes a tick, halts, or collects. Each with what the answer tells. And what the clock step before it does.
-use Rattle.std.proofs.Common.{◌≡◌, ℕ, ◌+◌, Bool, true, false, cond, not, ◌&&◌, eqb, leb, List, [], ◌∷◌, ◌++◌, map, length, ℤ, is_some, Some, None, Ok, Err, Option, Result, sym, refl, ap, ◌∙◌, subst}
+use Rattle.std.proofs.Common.{◌≡◌, ◌⊎◌, inl, inr, ℕ, ◌+◌, Bool, true, false, cond, not, ◌&&◌, eqb, leb, List, [], ◌∷◌, ◌++◌, map, length, ℤ, is_some, Some, None, Ok, Err, Option, Result, sym, refl, ap, ◌∙◌, subst}
+use Rattle.std.proofs.lemmas.Bool.{and_from}
 use lib.Signed.{lt_z}
+use Rattle.std.proofs.lemmas.List.{map-append}
 use Rattle.market.specs.declared.refusal.RangeRefusal.{RangeRefusal}
 use Rattle.market.specs.declared.side.Side.{Side}
 use Rattle.market.specs.Range.{RangePrices, permitted}
@@ -33,10 +35,11 @@ use Rattle.session.specs.declared.calls.Call.{Call}
 use Rattle.session.specs.declared.calls.Call.TheVariants.{Open, Respond, Change, Withdraw, Tick, Halt, Resume, Clock, Look, Collect}
 use Rattle.session.specs.History.{opened_number, told_terms, is_accepted, is_collected, tick_in, is_halt, claimed, plain_below, stood_after, changed_then, withdrawn_then}
 use Rattle.session.specs.Runs.{Answer, Opened, Stored, Accepted, Looked, Collected, Refused, Moment, answered, answering, clock_stepped, moment}
-use Rattle.session.proofs.Ending.Lives.{plain_is}
+use Rattle.session.proofs.Choices.{cond_through}
+use Rattle.session.proofs.Ending.Lives.{plain_is, unstepped}
 use Rattle.room.proofs.Checked.{TermsInside, opening_sized, response_inside, change_inside}
 use Rattle.room.proofs.Sound.{Sound, each_push, each_changed, each_without, stood_sound, stored_may_stand}
-use Rattle.room.proofs.Tests.{refuse_none, unless_ok, and_then_ok, ok_err, both_true}
+use Rattle.room.proofs.Tests.{refuse_none, unless_ok, and_then_ok, ok_err}
 
 -- an answer that tells of no auction
 pub record Quiet {T F : Type 0} (c : Call T) (a : Answer F) : Type 0 where
@@ -55,15 +58,32 @@ pub record SameButResponses (a b : OpenAuction) : Type 0 where
   pub same_initiating : b.values.initiating ≡ a.values.initiating
 
 module _ {P T F Q : Type 0} (w : World P T F Q) where
+  -- an auction is opened
+  pub record OpenedHere (m : Moment P T F Q) : Type 0 where
+    pub request : OpeningRequest
+    pub range : RangePrices
+    pub call_is : m.call ≡ Open request
+    pub answer_is : m.answer ≡ Opened (record { room = m.stepped.number; auction = m.stepped.opened + 1 })
+    pub after_is : m.after ≡ opened_with w m.stepped request.order range
+    pub permitted_then : permitted request.order.side request.order.limit (w.market.shows m.stepped.position) ≡ Ok range
+    pub guaranteed : lt_z range.initiating (turned request.order.side request.order.guarantee.price) ≡ false
+    pub sized : leb 1 request.order.size ≡ true
+
+  -- an auction is collected
+  pub record CollectedHere (m : Moment P T F Q) : Type 0 where
+    pub claim : ClaimNumbers
+    pub rows : ℕ
+    pub auction : EndedAuction
+    pub call_is : m.call ≡ Collect claim rows
+    pub no_clock_step : m.stepped ≡ m.before
+    pub answer_is : m.answer ≡ Collected (record { count = length (fill_rows w auction); cause = auction.cause }) (fill_rows w auction)
+    pub after_is : m.after ≡ with_waiting (without_number claim.auction m.stepped.waiting) m.stepped
+    pub waited : numbered claim.auction m.stepped.waiting ≡ Some auction
+
   pub data Did (m : Moment P T F Q) : Type 0 where
     -- nothing happens to an auction
     idle : (b : Bool) → m.after ≡ with_halted b m.stepped → Quiet m.call m.answer → Did m
-    -- an auction is opened
-    opened : (x : OpeningRequest) (r : RangePrices) → m.call ≡ Open x
-        → m.answer ≡ Opened (record { room = m.stepped.number; auction = m.stepped.opened + 1 })
-        → m.after ≡ opened_with w m.stepped x.order r
-        → permitted x.order.side x.order.limit (w.market.shows m.stepped.position) ≡ Ok r
-        → lt_z r.initiating (turned x.order.side x.order.guarantee.price) ≡ false → leb 1 x.order.size ≡ true → Did m
+    opened : OpenedHere m → Did m
     -- responses are stored, changed or withdrawn; a plain one priced below the floor then ends the auction
     stored : (a b : OpenAuction) (t : StoredTerms) → m.stepped.current ≡ Some a → m.answer ≡ Stored t → claimed m.call ≡ None
         → SameButResponses a b → told_of b.values ≡ stood_after m.call t (told_of a.values) → (Sound a.values → Sound b.values)
@@ -73,11 +93,25 @@ module _ {P T F Q : Type 0} (w : World P T F Q) where
         → m.after ≡ ticked m.stepped.current (w.market.shows (w.market.next m.stepped.position x)) (at_position (w.market.next m.stepped.position x) m.stepped) → Did m
     -- the room is halted
     halts : (time : ℕ) → m.call ≡ Halt time → m.answer ≡ Accepted → m.after ≡ with_halted true (ended Halted m.stepped) → Did m
-    -- an auction is collected
-    collected : (claim : ClaimNumbers) (rows : ℕ) (e : EndedAuction) → m.call ≡ Collect claim rows → m.stepped ≡ m.before
-        → m.answer ≡ Collected (record { count = length (fill_rows w e); cause = e.cause }) (fill_rows w e)
-        → m.after ≡ with_waiting (without_number claim.auction m.stepped.waiting) m.stepped
-        → numbered claim.auction m.stepped.waiting ≡ Some e → Did m
+    collected : CollectedHere m → Did m
+
+  -- an auction is opened, or the answer tells of none
+  pub opened_or_not : (m : Moment P T F Q) → Did m → OpenedHere m ⊎ (opened_number m.answer ≡ None)
+  opened_or_not m (idle b e k) = inr k.opens_none
+  opened_or_not m (opened d) = inl d
+  opened_or_not m (stored a b t e y g like told sound f) = inr (ap (λ (v : Answer F). opened_number v) y)
+  opened_or_not m (ticks t x j y f) = inr (ap (λ (v : Answer F). opened_number v) y)
+  opened_or_not m (halts t j y f) = inr (ap (λ (v : Answer F). opened_number v) y)
+  opened_or_not m (collected d) = inr (ap (λ (v : Answer F). opened_number v) d.answer_is)
+
+  -- an auction is collected, or the answer tells of none
+  pub collected_or_not : (m : Moment P T F Q) → Did m → CollectedHere m ⊎ (is_collected m.answer ≡ false)
+  collected_or_not m (idle b e k) = inr k.collects_none
+  collected_or_not m (opened d) = inr (ap (λ (v : Answer F). is_collected v) d.answer_is)
+  collected_or_not m (stored a b t e y g like told sound f) = inr (ap (λ (v : Answer F). is_collected v) y)
+  collected_or_not m (ticks t x j y f) = inr (ap (λ (v : Answer F). is_collected v) y)
+  collected_or_not m (halts t j y f) = inr (ap (λ (v : Answer F). is_collected v) y)
+  collected_or_not m (collected d) = inl d
 
   refused_quiet : (c : Call T) (e : Refusal F) → Quiet {F = F} c (Refused e)
   refused_quiet c e = record { opens_none = refl; stores_none = refl; collects_none = refl; ticks_none = refl; halts_none = refl }
@@ -105,7 +139,8 @@ module _ {P T F Q : Type 0} (w : World P T F Q) where
       record { call = Open x; before = s; stepped = u; after = z.0; answer = answered Opened z.1 }
 
   did_opening : (s u : RoomState P Q) (x : OpeningRequest) (y : Result RangePrices (Refusal F)) → opening_range w u x.order ≡ y → leb 1 x.order.size ≡ true → Did (opening_moment s u x y)
-  did_opening s u x (Ok r) e k = let ok = opening_ok u x.order r e in opened x r refl refl refl ok.0 ok.1 k
+  did_opening s u x (Ok r) e k = let ok = opening_ok u x.order r e in
+      opened (record { request = x; range = r; call_is = refl; answer_is = refl; after_is = refl; permitted_then = ok.0; guaranteed = ok.1; sized = k })
   did_opening s u x (Err f) e k = idle u.halted refl (refused_quiet (Open x) f)
 
   abbrev open_moment : RoomState P Q → OpeningRequest → Option (Refusal F) → Moment P T F Q
@@ -152,26 +187,18 @@ module _ {P T F Q : Type 0} (w : World P T F Q) where
   did_clock s t None = idle (clocked s t).halted refl (accepted_quiet (Clock t) refl refl)
   did_clock s t (Some f) = idle s.halted refl (refused_quiet (Clock t) f)
 
-  -- Responses. The table as told, with one more, one changed, one withdrawn.
-  told_push : (side : Side) (xs : List Response) (x : Response) → map (response_told side) (xs ++ x ∷ []) ≡ map (response_told side) xs ++ response_told side x ∷ []
-  told_push side [] x = refl
-  told_push side (y ∷ ys) x = ap (λ l. response_told side y ∷ l) (told_push side ys x)
-
-  told_cond : (side : Side) (b : Bool) (xs ys : List Response) → map (response_told side) (cond b xs ys) ≡ cond b (map (response_told side) xs) (map (response_told side) ys)
-  told_cond side true xs ys = refl
-  told_cond side false xs ys = refl
-
+  -- Responses. The table as told, with one changed, one withdrawn.
   told_changed : (side : Side) (m o size : ℕ) (z : ℤ) (n : ℕ) (xs : List Response)
       → map (response_told side) (own_changed m o size z n xs) ≡ changed_then m o (record { price = turned side z; size = size }) (map (response_told side) xs)
   told_changed side m o size z n [] = refl
   told_changed side m o size z n (x ∷ xs) =
-      told_cond side (is_of m o x) (restored size z n x ∷ xs) (x ∷ own_changed m o size z n xs)
+      cond_through (map (response_told side)) (is_of m o x) (restored size z n x ∷ xs) (x ∷ own_changed m o size z n xs)
       ∙ ap (λ l. cond (is_of m o x) (response_told side (restored size z n x) ∷ map (response_told side) xs) (response_told side x ∷ l)) (told_changed side m o size z n xs)
 
   told_withdrawn : (side : Side) (m o : ℕ) (xs : List Response) → map (response_told side) (without_own m o xs) ≡ withdrawn_then m o (map (response_told side) xs)
   told_withdrawn side m o [] = refl
   told_withdrawn side m o (x ∷ xs) =
-      told_cond side (is_of m o x) xs (x ∷ without_own m o xs)
+      cond_through (map (response_told side)) (is_of m o x) xs (x ∷ without_own m o xs)
       ∙ ap (λ l. cond (is_of m o x) (map (response_told side) xs) (response_told side x ∷ l)) (told_withdrawn side m o xs)
 
   same_but : (a b : OpenAuction) → b.number ≡ a.number → b.deadline ≡ a.deadline → b.values.order ≡ a.values.order → b.values.floor ≡ a.values.floor → b.values.initiating ≡ a.values.initiating → SameButResponses a b
@@ -192,7 +219,7 @@ module _ {P T F Q : Type 0} (w : World P T F Q) where
   response_sound a x i k h =
       let ok = stored_may_stand a.values.order.size a.values.floor a.values.initiating x.size (turned_in a x.price) h.sized h.in_order i.sized k in
       let good : response_ok a.values.order.size a.values.floor a.values.initiating (as_stored a x) ≡ true =
-      both_true (from_to 1 16 x.member) _ i.member_inside (both_true (from_to 1 4 x.own) _ i.own_inside ok) in
+      and_from (from_to 1 16 x.member) _ i.member_inside (and_from (from_to 1 4 x.own) _ i.own_inside ok) in
       stood_sound a.values (a.values.stood ++ as_stored a x ∷ []) h (each_push (response_ok a.values.order.size a.values.floor a.values.initiating) a.values.stood (as_stored a x) h.standing good)
 
   abbrev responding_moment : RoomState P Q → RoomState P Q → ResponseRequest → Result OpenAuction (Refusal F) → Moment P T F Q
@@ -205,7 +232,7 @@ module _ {P T F Q : Type 0} (w : World P T F Q) where
       let ok = responding_ok u.current x a e in
       stored a (with_response a x) (terms_told a (stored_price a x.price) (stored_size a x.size)) ok.0 refl refl
       (same_but a (with_response a x) refl refl refl refl refl)
-      (told_push a.values.order.side a.values.stood (as_stored a x))
+      (map-append (response_told a.values.order.side) a.values.stood (as_stored a x ∷ []))
       (response_sound a x i ok.1)
       (ap (λ (b : Bool). cond b (ended PlainBelowFloor (with_current (with_response a x) u)) (with_current (with_response a x) u)) (sym (plain_is x.kind (lt_z (turned a.values.order.side x.price) a.values.floor))))
   did_responding s u x (Err f) e i = idle u.halted refl (refused_quiet (Respond x) f)
@@ -293,12 +320,17 @@ module _ {P T F Q : Type 0} (w : World P T F Q) where
 
   did_collecting : (s u : RoomState P Q) (c : ClaimNumbers) (n : ℕ) (y : Result EndedAuction (Refusal F)) → u ≡ s → collectable {F = F} s c n ≡ y → Did (collecting_moment s c n u y)
   did_collecting s u c n (Ok e) h k =
-      collected c n e refl h refl (sym (ap (λ (z : RoomState P Q). with_waiting (without_number c.auction z.waiting) z) h)) (ap (λ (z : RoomState P Q). numbered c.auction z.waiting) h ∙ collect_ok s c n e k)
+      collected (record {
+        claim = c;
+        rows = n;
+        auction = e;
+        call_is = refl;
+        no_clock_step = h;
+        answer_is = refl;
+        after_is = sym (ap (λ (z : RoomState P Q). with_waiting (without_number c.auction z.waiting) z) h);
+        waited = ap (λ (z : RoomState P Q). numbered c.auction z.waiting) h ∙ collect_ok s c n e k;
+      })
   did_collecting s u c n (Err f) h k = idle s.halted (sym (ap (λ (z : RoomState P Q). with_halted s.halted z) h)) (refused_quiet (Collect c n) f)
-
-  unstepped : (k : Option (Refusal F)) (s : RoomState P Q) → clock_stepped k None s ≡ s
-  unstepped None s = refl
-  unstepped (Some e) s = refl
 
   looked_quiet : (v : _) → Quiet {T = T} {F = F} Look (Looked v)
   looked_quiet v = record { opens_none = refl; stores_none = refl; collects_none = refl; ticks_none = refl; halts_none = refl }

@@ -1,9 +1,11 @@
 -- The auctions that wait, by their numbers: what one more, and one fewer, does to the others.
 use Rattle.std.proofs.Common.{◌≡◌, ℕ, ◌+◌, Bool, true, false, cond, eqb, List, [], ◌∷◌, ◌++◌, length, Some, None, Option, sym, refl, ap, ◌∙◌, arith}
 use Rattle.std.proofs.lemmas.Bool.Decides.{nat_tests}
+use Rattle.std.proofs.lemmas.List.{length_push}
 use Rattle.allocation.specs.declared.cause.EndCause.{EndCause}
 use Rattle.room.specs.State.{OpenAuction, EndedAuction, closed, is_number, numbered, without_number}
 use Rattle.room.proofs.Tests.{none_some, true_false}
+use Rattle.session.proofs.Choices.{cond_some_none}
 
 -- an auction as it waits
 abbrev pub as_ended : EndCause → OpenAuction → EndedAuction
@@ -17,10 +19,6 @@ Once n es = numbered n (without_number n es) ≡ None
 pub numbered_other : (n : ℕ) (es : List EndedAuction) (e : EndedAuction) → eqb e.number n ≡ false → numbered n (es ++ e ∷ []) ≡ numbered n es
 numbered_other n [] e h = ap (λ (b : Bool). cond b (Some e) None) h
 numbered_other n (x ∷ xs) e h = ap (λ o. cond (eqb x.number n) (Some x) o) (numbered_other n xs e h)
-
-cond_some_none : {X : Type 0} (b : Bool) (x : X) (o : Option X) → cond b (Some x) o ≡ None → (b ≡ false) × (o ≡ None)
-cond_some_none true x o h = none_some x (sym h)
-cond_some_none false x o h = (refl, h)
 
 -- the first of its number that waits
 pub numbered_new : (n : ℕ) (es : List EndedAuction) (e : EndedAuction) → numbered n es ≡ None → eqb e.number n ≡ true → numbered n (es ++ e ∷ []) ≡ Some e
@@ -101,10 +99,6 @@ once_closed c n None es h k = k
 once_closed c n (Some a) es h k = once_other n es (as_ended c a) h k
 
 -- how many wait
-length_push : (es : List EndedAuction) (e : EndedAuction) → length (es ++ e ∷ []) ≡ length es + 1
-length_push [] e = refl
-length_push (x ∷ xs) e = let again = length_push xs e in omega arith
-
 without_length_at : (b : Bool) (n : ℕ) (x e : EndedAuction) (xs : List EndedAuction) → (numbered n xs ≡ Some e → length (without_number n xs) + 1 ≡ length xs) → cond b (Some x) (numbered n xs) ≡ Some e → length (cond b xs (x ∷ without_number n xs)) + 1 ≡ length (x ∷ xs)
 without_length_at true n x e xs again h = omega arith
 without_length_at false n x e xs again h = let less = again h in omega arith

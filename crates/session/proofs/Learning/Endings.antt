@@ -1,7 +1,9 @@
 -- What a member knows of a room goes on by itself when an auction ends and when the clock steps; and whether an auction
 -- ends at a call is settled after the clock step. A lemma that ends in -follows says that what is known after the room's
 -- function of that name is computed from what was known before.
-use Rattle.std.proofs.Common.{◌≡◌, ℕ, max, Bool, true, false, cond, not, ◌&&◌, eqb, List, Some, None, Option, sym, refl, ap, ◌∙◌}
+use Rattle.std.proofs.Common.{◌≡◌, ℕ, max, Bool, true, false, cond, not, ◌&&◌, eqb, List, [], ◌∷◌, Some, None, Option, sym, refl, ap, ◌∙◌}
+use Rattle.std.proofs.lemmas.Bool.{eq-eqb}
+use Rattle.std.proofs.lemmas.List.{map-append}
 use Rattle.std.specs.Option.{option_map}
 use Rattle.allocation.specs.declared.cause.EndCause.{EndCause}
 use Rattle.allocation.specs.declared.cause.EndCause.TheVariants.{Deadline}
@@ -12,7 +14,6 @@ use Rattle.room.specs.State.{OpenAuction, EndedAuction, RoomState, is_number, cl
 use Rattle.session.specs.Learning.{ends_of, ends_here}
 use Rattle.session.specs.Runs.{Moment}
 use Rattle.session.proofs.Learning.Known.{Known, KnownAuction, known, known_auction, own_rows, own_count, numbers, closed_known, due_known, ended_known, settled, clocked_known, with_auction_known}
-use Rattle.session.proofs.Learning.OwnRows.{same_number, numbers_push}
 
 -- The open auction is open no longer.
 abbrev pub ends_in : Option OpenAuction → Option OpenAuction → Bool
@@ -20,12 +21,12 @@ ends_in None after = false
 ends_in (Some a) after = eqb a.number a.number && not (is_number a.number after)
 
 pub gone_ends : (a : OpenAuction) → ends_in (Some a) None ≡ true
-gone_ends a = ap (λ b. b && true) (same_number a.number)
+gone_ends a = ap (λ b. b && true) (eq-eqb a.number a.number refl)
 
 pub kept_ends_not : (a b : OpenAuction) → b.number ≡ a.number → ends_in (Some a) (Some b) ≡ false
 kept_ends_not a b h =
     ap (λ n. eqb a.number a.number && not (eqb n a.number)) h
-    ∙ ap (λ c. c && not c) (same_number a.number)
+    ∙ ap (λ c. c && not c) (eq-eqb a.number a.number refl)
 
 module _ {P T F Q : Type 0} where
   ends_of_is : (m : Moment P T F Q) (o : Option OpenAuction) → m.before.current ≡ o → ends_of o m ≡ ends_in o m.after.current
@@ -38,7 +39,7 @@ module _ {P T F Q : Type 0} where
 
 pub closed_follows : (u : ℕ) (c : EndCause) (o : Option OpenAuction) (es : List EndedAuction) → numbers (closed c o es) ≡ closed_known (option_map (known_auction u) o) (numbers es)
 closed_follows u c None es = refl
-closed_follows u c (Some a) es = numbers_push es (record { number = a.number; values = a.values; cause = c })
+closed_follows u c (Some a) es = map-append (λ (e : EndedAuction). e.number) es (record { number = a.number; values = a.values; cause = c } ∷ [])
 
 due_follows : (u t : ℕ) (o : Option OpenAuction) → due_known t (option_map (known_auction u) o) ≡ due t o
 due_follows u t None = refl

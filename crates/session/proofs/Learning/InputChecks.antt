@@ -1,5 +1,6 @@
 -- What the input checks tell: a call that passes them has a member, and terms inside their limits may be hidden.
-use Rattle.std.proofs.Common.{◌≡◌, ℕ, ◌≤◌, Bool, true, false, not, ◌&&◌, ltb, None, Option, refl, ap, ◌∙◌, arith}
+use Rattle.std.proofs.Common.{◌≡◌, ℕ, ◌≤◌, Bool, true, false, not, ◌&&◌, ltb, None, Option, ap, ◌∙◌, arith}
+use Rattle.std.proofs.lemmas.Bool.{and_parts}
 use Rattle.std.proofs.lemmas.Bool.Decides.{nat_tests}
 use Rattle.allocation.specs.AuctionInvariant.{from_to}
 use Rattle.room.specs.declared.refusal.Refusal.{Refusal}
@@ -8,16 +9,8 @@ use Rattle.room.specs.declared.requests.OpeningRequest.{OpeningRequest}
 use Rattle.room.specs.declared.requests.ResponseRequest.{ResponseRequest}
 use Rattle.room.specs.Checks.{price_ok, size_ok, open_checks, respond_checks, change_checks}
 use Rattle.room.specs.Refusals.{refuse}
+use Rattle.room.proofs.Tests.{refuse_none}
 use Rattle.session.specs.Learning.{opening_hidden, response_hidden, change_hidden}
-
--- What passes a test of the input checks.
-passed_test : {F : Type 0} (b : Bool) (n : ℕ) (further : Option (Refusal F)) → refuse b n further ≡ None → b ≡ false
-passed_test true n further h = let z : ◌≡◌ {A = ℕ} 0 1 = cc in absurd (omega arith)
-passed_test false n further h = refl
-
-passed_on : {F : Type 0} (b : Bool) (n : ℕ) (further : Option (Refusal F)) → refuse b n further ≡ None → further ≡ None
-passed_on true n further h = let z : ◌≡◌ {A = ℕ} 0 1 = cc in absurd (omega arith)
-passed_on false n further h = h
 
 a_member : (m : ℕ) → not (from_to 1 16 m) ≡ false → 1 ≤ m
 a_member m h = grind (arith, nat_tests)
@@ -27,7 +20,10 @@ member_of_checks : {F : Type 0} (a b c : Bool) (m : ℕ) (further : Option (Refu
     → refuse a 1 (refuse b 2 (refuse c 3 (refuse (not (from_to 1 16 m)) 4 further))) ≡ None → 1 ≤ m
 member_of_checks a b c m further h =
     let d = refuse (not (from_to 1 16 m)) 4 further in
-    a_member m (passed_test (not (from_to 1 16 m)) 4 further (passed_on c 3 d (passed_on b 2 (refuse c 3 d) (passed_on a 1 (refuse b 2 (refuse c 3 d)) h))))
+    let in_time = refuse_none a 1 (refuse b 2 (refuse c 3 d)) h in
+    let priced = refuse_none b 2 (refuse c 3 d) in_time.1 in
+    let sized = refuse_none c 3 d priced.1 in
+    a_member m (refuse_none (not (from_to 1 16 m)) 4 further sized.1).0
 
 pub responding_member : (F : Type 0) (x : ResponseRequest) → respond_checks {F = F} x ≡ None → 1 ≤ x.member
 responding_member F x h = member_of_checks _ (not (price_ok x.price)) (not (size_ok x.size)) x.member _ h
@@ -36,14 +32,6 @@ pub changing_member : (F : Type 0) (x : ChangeRequest) → change_checks {F = F}
 changing_member F x h = member_of_checks _ (not (price_ok x.price)) (not (size_ok x.size)) x.member _ h
 
 -- What is hidden is inside its limits, so the input checks do not tell of it.
-both_left : (a b : Bool) → (a && b) ≡ true → a ≡ true
-both_left true b h = refl
-both_left false b h = h
-
-both_right : (a b : Bool) → (a && b) ≡ true → b ≡ true
-both_right true b h = h
-both_right false b h = let z : ◌≡◌ {A = ℕ} 0 1 = cc in absurd (omega arith)
-
 module _ (F : Type 0) where
   pub open_checks_same : (x : OpeningRequest) → price_ok x.order.guarantee.price ≡ true → open_checks {F = F} x ≡ open_checks (opening_hidden x)
   open_checks_same x h =
@@ -52,8 +40,9 @@ module _ (F : Type 0) where
   terms_checks_same : (time member own : Bool) (a b : Bool) → (a && b) ≡ true
       → ◌≡◌ {A = Option (Refusal F)} (refuse time 1 (refuse (not a) 2 (refuse (not b) 3 (refuse member 4 (refuse own 5 None))))) (refuse time 1 (refuse member 4 (refuse own 5 None)))
   terms_checks_same time member own a b h =
-      ap (λ c. refuse time 1 (refuse (not c) 2 (refuse (not b) 3 (refuse member 4 (refuse own 5 None))))) (both_left a b h)
-      ∙ ap (λ c. refuse time 1 (refuse (not c) 3 (refuse member 4 (refuse own 5 None)))) (both_right a b h)
+      let both = and_parts a b h in
+      ap (λ c. refuse time 1 (refuse (not c) 2 (refuse (not b) 3 (refuse member 4 (refuse own 5 None))))) both.0
+      ∙ ap (λ c. refuse time 1 (refuse (not c) 3 (refuse member 4 (refuse own 5 None)))) both.1
 
   pub respond_checks_same : (x : ResponseRequest) → (price_ok x.price && size_ok x.size) ≡ true → respond_checks {F = F} x ≡ respond_checks (response_hidden x)
   respond_checks_same x h =

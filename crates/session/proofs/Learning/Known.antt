@@ -2,7 +2,7 @@
 -- and the other members' responses; and what it knows after a call, and what it is shown of the answer, is computed here
 -- from what it knew before, the call without what is hidden, whether the call opened an auction, and whether one ended.
 -- A name that ends in -known is the room's function of that name, on what is known.
-use Rattle.std.proofs.Common.{ℕ, zero, suc, ◌+◌, min, max, Bool, true, false, cond, not, eqb, leb, List, [], ◌∷◌, ◌++◌, length, ℤ, is_some, Some, None, Ok, Err, Option, Result}
+use Rattle.std.proofs.Common.{ℕ, zero, suc, ◌+◌, min, max, Bool, true, false, cond, not, eqb, leb, List, [], ◌∷◌, ◌++◌, map, length, ℤ, is_some, Some, None, Ok, Err, Option, Result}
 use lib.Signed.{lt_z}
 use Rattle.std.specs.Int.{int_max}
 use Rattle.std.specs.Option.{option_map}
@@ -59,8 +59,7 @@ counted (Some n) = n
 
 -- Of auctions that wait, only their numbers.
 abbrev pub numbers : List EndedAuction → List ℕ
-numbers [] = []
-numbers (e ∷ es) = e.number ∷ numbers es
+numbers es = map (λ (e : EndedAuction). e.number) es
 
 -- What a member can know of the open auction.
 pub record KnownAuction : Type 0 where

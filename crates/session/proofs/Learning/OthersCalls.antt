@@ -1,6 +1,7 @@
 -- Calls of which a member is not shown the answer: what it knows after one follows from what it knew before, from whether
 -- the call opened an auction, and from whether one ended.
 use Rattle.std.proofs.Common.{◌≡◌, ℕ, ◌+◌, ◌≤◌, Bool, true, false, cond, not, eqb, is_some, Some, None, Ok, Err, Option, Result, sym, refl, ap, ◌∙◌}
+use Rattle.std.proofs.lemmas.Bool.{cond-true, cond-false}
 use Rattle.std.specs.Option.{option_map}
 use Rattle.market.specs.declared.quote.Quote.{Quote}
 use Rattle.market.specs.declared.refusal.RangeRefusal.{RangeRefusal}
@@ -29,7 +30,7 @@ use Rattle.session.specs.History.{opened_number}
 use Rattle.session.specs.Learning.{guarantee_hidden}
 use Rattle.session.specs.Runs.{Opened, answered}
 use Rattle.session.proofs.Learning.Known.{Known, known, known_auction, numbers, ended_known, settled, with_auction_known, at_position_known, with_waiting_known, refloored, opened_known, opening_known, ticking_known_by, ticking_known, is_number_known, numbered_known, waiting_known, collectable_known, collected_by}
-use Rattle.session.proofs.Learning.OwnRows.{cond_true, cond_false, others_push, others_changed, others_withdrawn, own_count_other, numbered_follows, without_number_follows}
+use Rattle.session.proofs.Learning.OwnRows.{others_push, others_changed, others_withdrawn, own_count_other, numbered_follows, without_number_follows}
 use Rattle.session.proofs.Learning.Endings.{auction_rows, ends_in, gone_ends, kept_ends_not, ended_follows, with_current_same, closed_follows}
 
 module _ {P Q : Type 0} (F : Type 0) (u : ℕ) where
@@ -47,16 +48,16 @@ module _ {P Q : Type 0} (F : Type 0) (u : ℕ) where
     stored_or_ended true a e =
         ended_follows u PlainBelowFloor (with_current (with_response a x) s)
         ∙ ap ended_known (response_unknown a e)
-        ∙ sym (cond_true (ends_in (Some a) None) (ended_known (known u s)) (known u s) (gone_ends a))
+        ∙ sym (cond-true (ends_in (Some a) None) (ended_known (known u s)) (known u s) (gone_ends a))
     stored_or_ended false a e =
         response_unknown a e
-        ∙ sym (cond_false (ends_in (Some a) (Some (with_response a x))) (ended_known (known u s)) (known u s) (kept_ends_not a (with_response a x) refl))
+        ∙ sym (cond-false (ends_in (Some a) (Some (with_response a x))) (ended_known (known u s)) (known u s) (kept_ends_not a (with_response a x) refl))
 
     taken_or_refused : (r : Option (Refusal F)) (a : OpenAuction) (tells : OpenAuction → StoredTerms) → s.current ≡ Some a
         → let z = (outcome (unless r (Ok a)) s (λ b. responded s b x) tells).0 in known u z ≡ settled (ends_in (Some a) z.current) (known u s)
     taken_or_refused None a tells e = stored_or_ended (plain_below_floor a x) a e
     taken_or_refused (Some f) a tells e =
-        sym (cond_false (ends_in (Some a) s.current) (ended_known (known u s)) (known u s) (ap (ends_in (Some a)) e ∙ kept_ends_not a a refl))
+        sym (cond-false (ends_in (Some a) s.current) (ended_known (known u s)) (known u s) (ap (ends_in (Some a)) e ∙ kept_ends_not a a refl))
 
     responding_by : (o : Option OpenAuction) (tells : OpenAuction → StoredTerms) → s.current ≡ o
         → let z = (outcome (responding_to {F = F} o x) s (λ b. responded s b x) tells).0 in known u z ≡ settled (ends_in o z.current) (known u s)
@@ -123,11 +124,11 @@ module _ {P T F Q : Type 0} (w : World P T F Q) (u : ℕ) where
     ticked_for_follows (Some c) a q =
         let j = at_position_known p (known u s) in
         ended_follows u c (at_position p s)
-        ∙ sym (cond_true (ends_in (Some a) None) (ended_known j) (with_auction_known (Some (refloored q (known_auction u a))) j) (gone_ends a))
+        ∙ sym (cond-true (ends_in (Some a) None) (ended_known j) (with_auction_known (Some (refloored q (known_auction u a))) j) (gone_ends a))
     ticked_for_follows None a q =
         let j = at_position_known p (known u s) in
         let b = at_floor (floor_now (turned_quote a.values.order.side q).floor a.values.floor) a in
-        sym (cond_false (ends_in (Some a) (Some b)) (ended_known j) (with_auction_known (Some (refloored q (known_auction u a))) j) (kept_ends_not a b refl))
+        sym (cond-false (ends_in (Some a) (Some b)) (ended_known j) (with_auction_known (Some (refloored q (known_auction u a))) j) (kept_ends_not a b refl))
 
     ticked_follows : (o : Option OpenAuction) (q : Quote) → s.current ≡ o
         → let z = ticked o q (at_position p s) in let j = at_position_known p (known u s) in

@@ -1,6 +1,7 @@
 -- A member's own responses, changes and withdrawals: what it knows after one, and the whole answer, follow from what it
 -- knew before.
 use Rattle.std.proofs.Common.{◌≡◌, ℕ, ◌+◌, ◌≤◌, Bool, leb, is_some, Some, None, Ok, Err, Option, Result, sym, refl, ap, ◌∙◌}
+use Rattle.std.proofs.lemmas.Bool.{eq-eqb}
 use Rattle.std.specs.Option.{option_map}
 use Rattle.allocation.specs.declared.cause.EndCause.TheVariants.{PlainBelowFloor}
 use Rattle.allocation.specs.declared.response.Response.{Response}
@@ -16,7 +17,7 @@ use Rattle.allocation.specs.Table.{own_response}
 use Rattle.room.specs.Responses.{same_side, as_stored, with_response, with_change, with_withdrawal, plain_below_floor, responded, responding_to, responding, respond_call, changing_in, changing, change_call, withdrawing_from, withdrawing, withdraw_call, standing_now, plain_checked, stored_size, stored_price, terms_told}
 use Rattle.room.specs.State.{OpenAuction, RoomState, with_current, used_by}
 use Rattle.session.proofs.Learning.Known.{Known, KnownAuction, known, known_auction, unnumbered, own_rows, own_count, counted, with_auction_known, settled, with_response_known, with_change_known, with_withdrawal_known, above_known, responding_to_known, changing_in_known, withdrawing_from_known, responded_known, responding_known, changing_known, withdrawing_known, timed_known, terms_known, price_known, size_known}
-use Rattle.session.proofs.Learning.OwnRows.{own_push, own_response_follows, own_changed_follows, without_own_follows, own_count_more, own_count_read, same_number}
+use Rattle.session.proofs.Learning.OwnRows.{own_push, own_response_follows, own_changed_follows, without_own_follows, own_count_more, own_count_read}
 use Rattle.session.proofs.Learning.InputChecks.{responding_member, changing_member}
 use Rattle.session.proofs.Learning.Endings.{auction_rows, settled_follows, clocked_follows}
 
@@ -47,7 +48,7 @@ with_response_follows : (a : OpenAuction) (x : ResponseRequest) → 1 ≤ x.memb
 with_response_follows a x h =
     let u = x.member in
     auction_rows u a (with_response a x).values.stood (with_response a x).arrivals (with_response a x).used _ _
-    (own_push u a.values.stood (as_stored a x) (same_number u)) (own_count_more u a.used h)
+    (own_push u a.values.stood (as_stored a x) (eq-eqb u u refl)) (own_count_more u a.used h)
 
 with_change_follows : (a : OpenAuction) (x : ChangeRequest) → 1 ≤ x.member
     → known_auction x.member (with_change a x) ≡ with_change_known (known_auction x.member a) x

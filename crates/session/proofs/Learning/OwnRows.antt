@@ -1,30 +1,15 @@
 -- Lists: a member's own responses and its own count, under what the member does and under what others do; and the numbers
 -- of the auctions that wait.
-use Rattle.std.proofs.Common.{◌≡◌, ℕ, zero, suc, ◌+◌, ◌-◌, ◌≤◌, Bool, true, false, cond, ◌&&◌, eqb, List, [], ◌∷◌, ◌++◌, length, get_or, set, ℤ, Some, Option, sym, refl, ap, ◌∙◌, arith}
+use Rattle.std.proofs.Common.{◌≡◌, ℕ, zero, suc, ◌+◌, ◌-◌, ◌≤◌, Bool, true, false, cond, ◌&&◌, eqb, List, [], ◌∷◌, ◌++◌, get_or, set, ℤ, Some, Option, sym, refl, ap, ◌∙◌, arith}
+use Rattle.std.proofs.lemmas.Bool.{cond-true, cond-false}
 use Rattle.std.proofs.lemmas.Bool.Decides.{nat_tests}
 use Rattle.std.specs.Option.{option_map}
 use Rattle.allocation.specs.declared.response.Response.{Response}
 use Rattle.allocation.specs.Table.{is_of, restored, own_response, own_changed, without_own}
 use Rattle.room.specs.Responses.{}
 use Rattle.room.specs.State.{EndedAuction, numbered, without_number, used_by, one_more}
+use Rattle.session.proofs.Choices.{cond_through}
 use Rattle.session.proofs.Learning.Known.{unnumbered, own_rows, entry, own_count, counted, numbers, numbered_known, without_number_known}
-
--- Tests that are known.
-pub cond_true : {X : Type 0} (b : Bool) (x y : X) → b ≡ true → cond b x y ≡ x
-cond_true b x y h = ap (λ c. cond c x y) h
-
-pub cond_false : {X : Type 0} (b : Bool) (x y : X) → b ≡ false → cond b x y ≡ y
-cond_false b x y h = ap (λ c. cond c x y) h
-
-pub cond_through : {X Y : Type 0} (f : X → Y) (b : Bool) (x y : X) → f (cond b x y) ≡ cond b (f x) (f y)
-cond_through f true x y = refl
-cond_through f false x y = refl
-
-pub same_number : (n : ℕ) → eqb n n ≡ true
-same_number n = grind (arith, nat_tests)
-
-pub told_same : (m n : ℕ) → eqb m n ≡ true → m ≡ n
-told_same m n h = grind (arith, nat_tests)
 
 -- One member's response is not another's.
 not_another : (m u k : ℕ) (b : Bool) → eqb m u ≡ false → eqb k u ≡ true → (eqb k m && b) ≡ false
@@ -78,13 +63,13 @@ without_own_follows u own (x ∷ xs) =
 
 -- A response of the member joins its rows, and another's does not.
 pub own_push : (u : ℕ) (xs : List Response) (x : Response) → eqb x.member u ≡ true → own_rows u (xs ++ x ∷ []) ≡ own_rows u xs ++ unnumbered x ∷ []
-own_push u [] x h = cond_true (eqb x.member u) (unnumbered x ∷ []) [] h
+own_push u [] x h = cond-true (eqb x.member u) (unnumbered x ∷ []) [] h
 own_push u (y ∷ ys) x h =
     ap (λ l. cond (eqb y.member u) (unnumbered y ∷ l) l) (own_push u ys x h)
     ∙ sym (cond_through (λ l. l ++ unnumbered x ∷ []) (eqb y.member u) (unnumbered y ∷ own_rows u ys) (own_rows u ys))
 
 pub others_push : (u : ℕ) (xs : List Response) (x : Response) → eqb x.member u ≡ false → own_rows u (xs ++ x ∷ []) ≡ own_rows u xs
-others_push u [] x h = cond_false (eqb x.member u) (unnumbered x ∷ []) [] h
+others_push u [] x h = cond-false (eqb x.member u) (unnumbered x ∷ []) [] h
 others_push u (y ∷ ys) x h = ap (λ l. cond (eqb y.member u) (unnumbered y ∷ l) l) (others_push u ys x h)
 
 -- Another member's change leaves the member's rows.
@@ -155,14 +140,6 @@ own_count_read zero used h = absurd (omega arith)
 own_count_read (suc i) used h = entry_read i used ∙ sym (ap (λ j. get_or used j 0) (one_less i))
 
 -- The numbers of the auctions that wait.
-pub numbers_push : (es : List EndedAuction) (e : EndedAuction) → numbers (es ++ e ∷ []) ≡ numbers es ++ e.number ∷ []
-numbers_push [] e = refl
-numbers_push (x ∷ es) e = ap (λ l. x.number ∷ l) (numbers_push es e)
-
-pub numbers_length : (es : List EndedAuction) → length (numbers es) ≡ length es
-numbers_length [] = refl
-numbers_length (e ∷ es) = ap suc (numbers_length es)
-
 pub numbered_follows : (n : ℕ) (es : List EndedAuction) → numbered_known n (numbers es) ≡ option_map (λ (e : EndedAuction). e.number) (numbered n es)
 numbered_follows n [] = refl
 numbered_follows n (e ∷ es) =

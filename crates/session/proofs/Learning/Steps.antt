@@ -1,8 +1,11 @@
 -- Each call: what a member knows after it, and what it is shown of the answer, follow from what it knew before, from the
 -- call without what is hidden, from whether it opened an auction, and from whether one ended.
 use Rattle.std.proofs.Common.{◌≡◌, ℕ, ◌≤◌, Bool, true, false, cond, ◌&&◌, ◌||◌, eqb, Some, None, Option, Result, sym, refl, ap, ◌∙◌, subst}
+use Rattle.std.proofs.lemmas.Bool.{cond-true, cond-false, eqb-true}
+use Rattle.std.proofs.lemmas.List.{length-map}
 use Rattle.std.specs.Option.{option_map}
 use Rattle.allocation.specs.declared.cause.EndCause.TheVariants.{Halt as Halted}
+use Rattle.room.specs.declared.answers.StoredTerms.{StoredTerms}
 use Rattle.room.specs.declared.refusal.Refusal.{Refusal}
 use Rattle.room.specs.declared.requests.ChangeRequest.{ChangeRequest}
 use Rattle.room.specs.declared.requests.OpeningRequest.{OpeningRequest}
@@ -13,15 +16,14 @@ use Rattle.room.specs.Clock.{clocked, timed}
 use Rattle.room.specs.Looks.{auction_view, look_call}
 use Rattle.room.specs.Openings.{opening, open_call}
 use Rattle.room.specs.Responses.{responding, respond_call, changing, change_call, withdrawing, withdraw_call}
-use Rattle.room.specs.State.{OpenAuction, RoomState}
+use Rattle.room.specs.State.{OpenAuction, EndedAuction, RoomState}
 use Rattle.room.specs.Ticks.{ticking}
 use Rattle.room.specs.World.{World}
 use Rattle.session.specs.declared.calls.Call.{Call}
 use Rattle.session.specs.declared.calls.Call.TheVariants.{Open, Respond, Change, Withdraw, Tick, Halt, Resume, Clock, Look, Collect}
 use Rattle.session.specs.Learning.{opening_hidden, response_hidden, change_hidden, hidden_from, hidden_in_limits, seen_by, opens_here, ends_here}
-use Rattle.session.specs.Runs.{Stored, Looked, answered, step, moment}
+use Rattle.session.specs.Runs.{Answer, Stored, Looked, answered, step, moment}
 use Rattle.session.proofs.Learning.Known.{Known, known, known_auction, settled, ended_known, with_halted_known, later_known, timed_known, opening_known, ticking_known, responding_known, changing_known, withdrawing_known, view_known, look_known, shown_whole, known_step}
-use Rattle.session.proofs.Learning.OwnRows.{cond_true, cond_false, told_same, numbers_length}
 use Rattle.session.proofs.Learning.Endings.{ends_in, ends_here_is, ended_follows, clocked_follows, ends_after_clock}
 use Rattle.session.proofs.Learning.OthersCalls.{opens_in, others_responding, others_changing, others_withdrawing, ticking_follows, ticking_over, opening_follows, collecting_follows}
 use Rattle.session.proofs.Learning.InputChecks.{responding_member, changing_member, open_checks_same, respond_checks_same, change_checks_same}
@@ -43,6 +45,18 @@ module _ {P T F Q : Type 0} (w : World P T F Q) (u : ℕ) (s : RoomState P Q) wh
       → known u (timed r s t business).0 ≡ later_known r (known u s) t goes
   later_follows None t business goes h = h refl (clocked s t) ∙ ap goes (clocked_follows u s t)
   later_follows (Some e) t business goes h = refl
+
+  -- The member's own call: all of the answer is shown.
+  own_shown : (member : ℕ) (r : Option (Refusal F)) (t : ℕ) (y : RoomState P Q × Result StoredTerms (Refusal F)) (goes : Known P Q → Known P Q × Result StoredTerms (Refusal F)) (others : Known P Q × Option (Answer F))
+      → eqb member u ≡ true → with_answer member y ≡ timed_known r (known member s) t goes
+      → (known u y.0, Some (answered Stored y.1)) ≡ cond (eqb member u) (shown_whole (timed_known r (known u s) t goes)) others
+  own_shown member r t y goes others h own =
+      ap shown_whole (subst (λ v. with_answer v y ≡ timed_known r (known v s) t goes) (eqb-true member u h) own) ∙ sym (cond-true (eqb member u) _ others h)
+
+  -- Another's: none of it.
+  others_shown : (member : ℕ) (z : RoomState P Q) (k : Known P Q) (own : Known P Q × Option (Answer F)) → eqb member u ≡ false → known u z ≡ k
+      → (known u z, None) ≡ cond (eqb member u) own (k, None)
+  others_shown member z k own h e = ap (λ j. (j, None)) e ∙ sym (cond-false (eqb member u) own (k, None) h)
 
   -- An opening.
   opens_later : (r : Option (Refusal F)) (x : OpeningRequest)
@@ -77,39 +91,28 @@ module _ {P T F Q : Type 0} (w : World P T F Q) (u : ℕ) (s : RoomState P Q) wh
       → let y = respond_call {F = F} s x in
       (known u y.0, cond b (Some (answered Stored y.1)) None)
       ≡ known_step w u false (ends_in s.current y.0.current) (known u s) (Respond (cond b x (response_hidden x)))
-  respond_by true x h l =
-      ap shown_whole (subst (λ v. with_answer v (respond_call {F = F} s x) ≡ timed_known (respond_checks x) (known v s) x.time (λ k. responding_known k x)) (told_same x.member u h) (own_responds F s x))
-      ∙ sym (cond_true (eqb x.member u) _ _ h)
+  respond_by true x h l = own_shown x.member (respond_checks x) x.time (respond_call s x) (λ k. responding_known k x) _ h (own_responds F s x)
   respond_by false x h l =
       let goes = settled (ends_in s.current (respond_call {F = F} s x).0.current) in
-      ap (λ k. (k, None))
-      (responds_later (respond_checks x) x (responding_member F x) h
-      ∙ ap (λ r. later_known r (known u s) x.time goes) (respond_checks_same F x l))
-      ∙ sym (cond_false (eqb x.member u) _ _ h)
+      others_shown x.member _ _ _ h (responds_later (respond_checks x) x (responding_member F x) h ∙ ap (λ r. later_known r (known u s) x.time goes) (respond_checks_same F x l))
 
   -- A change.
   change_by : (b : Bool) (x : ChangeRequest) → eqb x.member u ≡ b → (b || (price_ok x.price && size_ok x.size)) ≡ true
       → let y = change_call {F = F} s x in
       (known u y.0, cond b (Some (answered Stored y.1)) None) ≡ known_step w u false false (known u s) (Change (cond b x (change_hidden x)))
-  change_by true x h l =
-      ap shown_whole (subst (λ v. with_answer v (change_call {F = F} s x) ≡ timed_known (change_checks x) (known v s) x.time (λ k. changing_known k x)) (told_same x.member u h) (own_changes F s x))
-      ∙ sym (cond_true (eqb x.member u) _ _ h)
+  change_by true x h l = own_shown x.member (change_checks x) x.time (change_call s x) (λ k. changing_known k x) _ h (own_changes F s x)
   change_by false x h l =
-      ap (λ k. (k, None))
+      others_shown x.member _ _ _ h
       (later_follows (change_checks x) x.time (λ v. changing v x) (λ k. k) (λ e v. others_changing F u v x (changing_member F x e) h)
       ∙ ap (λ r. later_known r (known u s) x.time (λ k. k)) (change_checks_same F x l))
-      ∙ sym (cond_false (eqb x.member u) _ _ h)
 
   -- A withdrawal.
   withdraw_by : (b : Bool) (x : WithdrawRequest) → eqb x.member u ≡ b
       → let y = withdraw_call {F = F} s x in
       (known u y.0, cond b (Some (answered Stored y.1)) None) ≡ known_step w u false false (known u s) (Withdraw x)
-  withdraw_by true x h =
-      ap shown_whole (subst (λ v. with_answer v (withdraw_call {F = F} s x) ≡ timed_known (withdraw_checks x) (known v s) x.time (λ k. withdrawing_known k x)) (told_same x.member u h) (own_withdraws F s x))
-      ∙ sym (cond_true (eqb x.member u) _ _ h)
+  withdraw_by true x h = own_shown x.member (withdraw_checks x) x.time (withdraw_call s x) (λ k. withdrawing_known k x) _ h (own_withdraws F s x)
   withdraw_by false x h =
-      ap (λ k. (k, None)) (later_follows (withdraw_checks x) x.time (λ v. withdrawing v x) (λ k. k) (λ e v. others_withdrawing F u v x h))
-      ∙ sym (cond_false (eqb x.member u) _ _ h)
+      others_shown x.member _ _ _ h (later_follows (withdraw_checks x) x.time (λ v. withdrawing v x) (λ k. k) (λ e v. others_withdrawing F u v x h))
 
   -- A tick.
   ticks_later : (r : Option (Refusal F)) (t : ℕ) (x : T)
@@ -125,7 +128,7 @@ module _ {P T F Q : Type 0} (w : World P T F Q) (u : ℕ) (s : RoomState P Q) wh
   -- A look.
   look_follows : look_call s ≡ look_known (known u s)
   look_follows =
-      ap (λ n. record { time = s.time; halted = s.halted; waiting = n; auction = option_map auction_view s.current }) (sym (numbers_length s.waiting))
+      ap (λ n. record { time = s.time; halted = s.halted; waiting = n; auction = option_map auction_view s.current }) (sym (length-map s.waiting (λ (e : EndedAuction). e.number)))
       ∙ ap (λ a. record { time = s.time; halted = s.halted; waiting = (look_known (known u s)).waiting; auction = a }) (view_follows u s.current)
 
   call_follows : (c : Call T) → hidden_in_limits u c ≡ true

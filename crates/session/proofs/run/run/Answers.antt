@@ -18,19 +18,17 @@ returns g c =
     let w = at h.ranking in
     let calls = vec_items h.calls in
     let first = at_first g.M.Market.position g.S.IntervalSource.position h in
-    let starts = session_is _ (map claim_numbers (vec_items c.try_reserve.new.self)) first c.new-room.ensures.state (ap (map claim_numbers) c.try_reserve.ensures.items) in
-    let ended =
-    c.play.ensures.session
-    ∙ ap (λ r. session_end (at r) (session_of (state_of g.M.Market.position g.S.IntervalSource.position c.new-room.result) (map claim_numbers (vec_items c.try_reserve.new.self))) calls) c.new-room.ensures.ranking
-    ∙ ap (λ s. session_end w s calls) starts in
+    let made = session_of (state_of g.M.Market.position g.S.IntervalSource.position c.new-room.result) c.new.result.numbers in
+    let starts = session_is _ c.new.result.numbers first c.new-room.ensures.state (c.new.ensures.numbers ∙ ap (map claim_numbers) c.take_memory.ensures.claims) in
+    let ended = c.play.ensures.session ∙ ap (λ r. session_end (at r) made calls) c.new-room.ensures.ranking ∙ ap (λ s. session_end w s calls) starts in
     record {
       answers =
           c.play.ensures.answers
-          ∙ ap (λ (l : List (Option (Answer g.row.M-Fault.Denot))). l ++ session_answers (at c.new-room.result.ranking) (session_of (state_of g.M.Market.position g.S.IntervalSource.position c.new-room.result) (map claim_numbers (vec_items c.try_reserve.new.self))) calls) (ap (map told) c.in-Ok-with_capacity.ensures.items)
-          ∙ ap (λ r. session_answers (at r) (session_of (state_of g.M.Market.position g.S.IntervalSource.position c.new-room.result) (map claim_numbers (vec_items c.try_reserve.new.self))) calls) c.new-room.ensures.ranking
+          ∙ ap (λ (l : List (Option (Answer g.row.M-Fault.Denot))). l ++ session_answers (at c.new-room.result.ranking) made calls) (ap (map told) c.in-Ok.ensures.answers.0)
+          ∙ ap (λ r. session_answers (at r) made calls) c.new-room.ensures.ranking
           ∙ ap (λ s. session_answers w s calls) starts;
       room = ap (λ (s : Session g.M.Market.Position g.S.IntervalSource.Position). s.room) ended;
-      purse = ap (λ (s : Session g.M.Market.Position g.S.IntervalSource.Position). s.purse) ended;
+      purse = c.into_claims.ensures ∙ ap (λ (s : Session g.M.Market.Position g.S.IntervalSource.Position). s.purse) ended;
       of_the_run = answers_of_made w first calls;
       laws =
           laws_of_run w

@@ -1,0 +1,6 @@
+use Rattle.std.proofs.Common.{◌≤◌, take}
+use Rattle.session.specs.Memory.{collectings_in}
+use Rattle.session.proofs.lists.RowLists.for_calls.Given as goal
+
+abbrev pub invariant-loop-call : goal.invariant-loop-call
+invariant-loop-call g l = collectings_in (take l.call-index l.calls) ≤ l.kept

@@ -1,0 +1,63 @@
+// The lists of rows that are kept for the collectings of a run.
+ghost use Rattle.std.specs.Prelude.{◌≡◌, ◌+◌, ◌≤◌, length, OnOk, IfOk};
+ghost use Rattle.session.specs.Memory.{collectings_in};
+
+use crate::calls::Call;
+use allocation::fill::{FillRow, LEAST_ROWS};
+use std::alloc::{AllocError, Global};
+use std::marker::Model;
+
+// Each list is empty and has a place for every row. A contract sees how many there are.
+#[derive(Drop)]
+pub(crate) struct RowLists {
+    lists: Vec<Vec<FillRow>>,
+}
+
+impl Model for RowLists {
+    ghost use Rattle.std.specs.Prelude.{ℕ, vec_len};
+    ghost use Rattle.std.specs.List.{All};
+    ghost use Rattle.session.specs.Memory.{TakesEveryRow};
+
+    ghost Value = { ℕ };
+
+    ghost view = { λ kept. vec_len kept.lists };
+
+    ghost invariant = { λ kept. All TakesEveryRow kept.lists.items };
+}
+
+impl RowLists {
+    // One for each of the calls that collect.
+    pub(crate) fn for_calls<T>(heap: Global, calls: &[Call<T>]) -> Result<RowLists, AllocError>
+        ensures { IfOk result (λ kept. collectings_in calls.now ≤ kept) }
+    {
+        let mut kept = RowLists {
+            lists: Vec::new(heap),
+        };
+        for call in calls {
+            if call.is_collecting() {
+                kept.add(heap)?;
+            }
+        }
+        Ok(kept)
+    }
+
+    fn add(&mut self, heap: Global) -> Result<(), AllocError>
+        ensures { OnOk result (self.new ≡ self.old + 1) }
+    {
+        let list = Vec::with_capacity(heap, LEAST_ROWS)?;
+        self.lists.push(list)?;
+        Ok(())
+    }
+
+    // One of the lists, with these rows.
+    pub(crate) fn take(&mut self, rows: &[FillRow]) -> Vec<FillRow>
+        requires kept { 1 ≤ self.old }
+        requires few { length rows.now ≤ 129 }
+        ensures rows { result.items ≡ rows.now }
+        ensures one { self.new + 1 ≡ self.old }
+    {
+        let mut list = self.lists.pop().unwrap();
+        list.extend_from_slice(rows).unwrap();
+        list
+    }
+}

@@ -1,0 +1,121 @@
+// A session in code: calls on a room, with a purse of claims.
+ghost use Rattle.std.specs.Prelude.{◌≡◌, ◌+◌, ◌≤◌, [], ◌∷◌, ◌++◌, map, vec_len, vec_capacity};
+ghost use Rattle.session.specs.declared.calls.Call.TheVariants.{Open, Collect};
+ghost use Rattle.session.specs.Made.{HasMemoryFor, MadeAsModelled, session_now, session_world};
+ghost use Rattle.session.specs.Sessions.{session_answers, session_end};
+ghost use Rattle.session.specs.Told.{told, told_result};
+
+use crate::answers::Answer;
+use crate::calls::Call;
+use crate::lists::RowLists;
+use crate::purse::Purse;
+use allocation::fill::{FillRow, LEAST_ROWS};
+use allocation::ranking::Ranking;
+use interval::source::IntervalSource;
+use market::market::Market;
+use room::answers::ClaimNumbers;
+use room::refusal::Refusal;
+use room::requests::OpeningRequest;
+use room::room::Room;
+
+pub(crate) struct Session<M, R, S> {
+    pub(crate) room: Room<M, R, S>,
+    pub(crate) purse: Purse,
+    pub(crate) lists: RowLists,
+}
+
+impl<M: Market, R: Ranking, S: IntervalSource> Session<M, R, S> {
+    // Opens an auction and keeps the claim.
+    fn open(&mut self, request: OpeningRequest) -> Result<Answer<M::Fault>, Refusal<M::Fault>>
+        requires { HasMemoryFor {T = M.Tick} self.old (Open request ∷ []) }
+        ensures { MadeAsModelled (session_world M.Market.meaning S.IntervalSource.meaning R.Ranking.ahead self.old) M.Market.position S.IntervalSource.position self.old self.new (told_result result) (Open request) }
+    {
+        let claim = self.room.open(request)?;
+        let numbers = claim.numbers();
+        self.purse.put(claim);
+        Ok(Answer::Opened(numbers))
+    }
+
+    // Collects with the claim of these numbers, if the purse has one; a refusal puts it back.
+    fn collect(
+        &mut self,
+        numbers: ClaimNumbers,
+        rows: usize,
+    ) -> Result<Answer<M::Fault>, Refusal<M::Fault>>
+        requires { HasMemoryFor {T = M.Tick} self.old (Collect numbers rows ∷ []) }
+        ensures { MadeAsModelled (session_world M.Market.meaning S.IntervalSource.meaning R.Ranking.ahead self.old) M.Market.position S.IntervalSource.position self.old self.new (told_result result) (Collect numbers rows) }
+    {
+        let Some(claim) = self.purse.take(&numbers) else {
+            return Ok(Answer::NoClaim);
+        };
+        let mut written = [FillRow::BLANK; LEAST_ROWS];
+        let list = &mut written[..rows.min(LEAST_ROWS)];
+        match self.room.collect(claim, list) {
+            Ok(collection) => {
+                let rows = self.lists.take(&list[..collection.count]);
+                Ok(Answer::Collected(collection, rows))
+            }
+            Err((refusal, claim)) => {
+                self.purse.put(claim);
+                Err(refusal)
+            }
+        }
+    }
+
+    // Carries out one call.
+    fn try_call(&mut self, call: Call<M::Tick>) -> Result<Answer<M::Fault>, Refusal<M::Fault>>
+    where
+        M::Tick: Drop,
+        requires { HasMemoryFor self.old (call ∷ []) }
+        ensures { MadeAsModelled (session_world M.Market.meaning S.IntervalSource.meaning R.Ranking.ahead self.old) M.Market.position S.IntervalSource.position self.old self.new (told_result result) call }
+    {
+        match call {
+            Call::Open(request) => self.open(request),
+            Call::Respond(request) => Ok(Answer::Stored(self.room.respond(request)?)),
+            Call::Change(request) => Ok(Answer::Stored(self.room.change(request)?)),
+            Call::Withdraw(request) => Ok(Answer::Stored(self.room.withdraw(request)?)),
+            Call::Tick { time, tick } => {
+                self.room.tick(time, tick)?;
+                Ok(Answer::Accepted)
+            }
+            Call::Halt { time } => {
+                self.room.halt(time)?;
+                Ok(Answer::Accepted)
+            }
+            Call::Resume { time } => {
+                self.room.resume(time)?;
+                Ok(Answer::Accepted)
+            }
+            Call::Clock { time } => {
+                self.room.clock(time)?;
+                Ok(Answer::Accepted)
+            }
+            Call::Look => Ok(Answer::Looked(self.room.look())),
+            Call::Collect { claim, rows } => self.collect(claim, rows),
+        }
+    }
+
+    // The same, with a refusal among the answers.
+    fn make_call(&mut self, call: Call<M::Tick>) -> Answer<M::Fault>
+    where
+        M::Tick: Drop,
+        requires { HasMemoryFor self.old (call ∷ []) }
+        ensures { MadeAsModelled (session_world M.Market.meaning S.IntervalSource.meaning R.Ranking.ahead self.old) M.Market.position S.IntervalSource.position self.old self.new (told result) call }
+    {
+        self.try_call(call).unwrap_or_else(Answer::Refused)
+    }
+
+    // Carries out the calls, one after another.
+    pub(crate) fn play(&mut self, calls: Vec<Call<M::Tick>>, answers: &mut Vec<Answer<M::Fault>>)
+    where
+        M::Tick: Drop,
+        requires memory { HasMemoryFor self.old calls.items }
+        requires answers { vec_len answers.old + vec_len calls ≤ vec_capacity answers.old }
+        ensures answers { map told answers.new.items ≡ map told answers.old.items ++ session_answers (session_world M.Market.meaning S.IntervalSource.meaning R.Ranking.ahead self.old) (session_now M.Market.position S.IntervalSource.position self.old) calls.items }
+        ensures session { session_now M.Market.position S.IntervalSource.position self.new ≡ session_end (session_world M.Market.meaning S.IntervalSource.meaning R.Ranking.ahead self.old) (session_now M.Market.position S.IntervalSource.position self.old) calls.items }
+    {
+        for call in calls {
+            answers.push_reserved(self.make_call(call));
+        }
+    }
+}
