@@ -286,7 +286,7 @@ fn lengths(rt: &HostRuntime) -> io::Result<()> {
 }
 
 // The response that a member numbered 1.
-fn first_of(member: u8) -> ResponseId {
+fn id_of(member: u8) -> ResponseId {
     ResponseId { member, own: 1 }
 }
 
@@ -307,12 +307,12 @@ fn changes(rt: &HostRuntime) -> io::Result<()> {
     };
     let three_alike = [2, 3, 4].map(|member| other(member, 20, 297));
     let stored = store_all(&mut auction, &three_alike);
-    let changed = auction.change(first_of(2), terms(21, 297, 4));
-    let missing = auction.change(first_of(5), terms(21, 297, 5));
-    let above = auction.change(first_of(3), terms(20, 305, 6));
-    let again = auction.change(first_of(3), terms(20, 297, 4));
-    let withdrawn = auction.withdraw(first_of(4));
-    let twice = auction.withdraw(first_of(4));
+    let changed = auction.change(id_of(2), terms(21, 297, 4));
+    let missing = auction.change(id_of(5), terms(21, 297, 5));
+    let above = auction.change(id_of(3), terms(20, 305, 6));
+    let again = auction.change(id_of(3), terms(20, 297, 4));
+    let withdrawn = auction.withdraw(id_of(4));
+    let twice = auction.withdraw(id_of(4));
     println!(rt;
         "  stored {stored}, changed {changed} {missing} {above} {again}, withdrawn {withdrawn} {twice}"
     )?;
