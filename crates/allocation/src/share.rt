@@ -113,7 +113,7 @@ impl Deal<'_> {
         requires { length rows.old ≡ length self.now.among.responses.now }
         ensures { rows.new ≡ shared_rows side self.now.contracts self.now.among.responses.now }
     {
-        // The rows are written by place: after a loop over `rows.iter_mut().zip(..)` no proof knows what they hold.
+        // Not `rows.iter_mut().zip(..)`: after such a loop no proof knows what the rows hold.
         let mut odd = self.contracts - self.whole_parts();
         for (i, response) in self.among.responses.iter().enumerate() {
             let extra = odd.min(1);
