@@ -1,6 +1,6 @@
 -- A response by its member and own number, and by its place: what stands at the place that was found is the one that is
--- read, changed and removed.
-use Rattle.std.proofs.Common.{zero, ◌++◌, take, drop, ◌≡◌, ℕ, suc, false, not, List, [], ◌∷◌, ℤ, is_some, Some, refl, ap, ◌∙◌, add-one, arith}
+-- changed and removed.
+use Rattle.std.proofs.Common.{◌≡◌, ℕ, zero, suc, false, not, List, [], ◌∷◌, ◌++◌, take, drop, ℤ, is_some, Some, refl, ap, ◌∙◌, add-one, arith}
 use Rattle.allocation.specs.AuctionInvariant.{own_free}
 use Rattle.allocation.specs.Table.{place_of, rewritten, without_place, own_response, own_changed, without_own}
 use Rattle.allocation.specs.declared.response.Response.{Response}

@@ -1,15 +1,15 @@
 -- What a change of the table or of the floor keeps besides: members with own numbers that differ, and what holds of each
--- response when the floor moves.
-use Rattle.std.proofs.Common.{is_some, sym, ◌∙◌, ◌≡◌, ℕ, zero, suc, ◌+◌, true, false, not, List, [], ◌∷◌, ◌++◌, take, drop, ℤ, add-one, arith}
-use Rattle.std.proofs.lemmas.Int.{ints}
-use Rattle.std.proofs.lemmas.Bool.Decides.{nat_tests}
-use Rattle.allocation.specs.Auction.{AuctionValues, may_store}
-use Rattle.allocation.proofs.OwnResponses.{place_free}
+-- response when one more is stored and when the floor moves.
+use Rattle.std.proofs.Common.{◌≡◌, ℕ, zero, suc, ◌+◌, true, false, not, List, [], ◌∷◌, ◌++◌, take, drop, ℤ, is_some, sym, ◌∙◌, add-one, arith}
 use Rattle.std.proofs.lemmas.Bool.{and_parts}
-use Rattle.allocation.specs.AuctionInvariant.{arrival_free, response_ok, each, own_free, owns_apart}
+use Rattle.std.proofs.lemmas.Bool.Decides.{nat_tests}
+use Rattle.std.proofs.lemmas.Int.{ints}
+use Rattle.allocation.specs.Auction.{AuctionValues, may_store}
+use Rattle.allocation.specs.AuctionInvariant.{response_ok, each, arrival_free, own_free, owns_apart}
 use Rattle.allocation.specs.Table.{is_of, place_of, rewritten, any_below}
 use Rattle.allocation.specs.declared.response.Response.{Response}
 use Rattle.allocation.proofs.AuctionKept.{each_push, each_changed, each_less}
+use Rattle.allocation.proofs.OwnResponses.{place_free}
 
 -- what is known of a response that may be stored behind those that stand
 pub record NewStands (a : AuctionValues) (x : Response) : Type 0 where
