@@ -51,8 +51,7 @@ impl<M: Market, R: Ranking, S: IntervalSource> Room<M, R, S> {
             .response_of(change.member.number, change.own.number)
             .ok_or_else(|| Refusal::NoSuchResponse)?;
         open.check_change(&standing, &change)?;
-        let stored = open.change(&change);
-        Ok(stored)
+        Ok(open.change(&change))
     }
 
     // Removes a sealed response that stands.
@@ -73,7 +72,6 @@ impl<M: Market, R: Ranking, S: IntervalSource> Room<M, R, S> {
         if standing.kind == Kind::Plain {
             return Err(Refusal::ResponseIsPlain);
         }
-        let stored = open.withdraw(&withdrawal, &standing);
-        Ok(stored)
+        Ok(open.withdraw(&withdrawal, &standing))
     }
 }
