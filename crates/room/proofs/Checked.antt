@@ -1,12 +1,11 @@
 -- What follows of a request that passes its input checks.
-use Rattle.std.proofs.Common.{◌≡◌, ℕ, true, not, ltb, leb, ℤ, None, arith}
+use Rattle.std.proofs.Common.{◌≡◌, ℕ, true, leb, ℤ, None, arith}
 use Rattle.std.proofs.lemmas.Bool.Decides.{nat_tests}
 use Rattle.allocation.specs.AuctionInvariant.{from_to}
 use Rattle.room.specs.declared.requests.ChangeRequest.{ChangeRequest}
 use Rattle.room.specs.declared.requests.OpeningRequest.{OpeningRequest}
 use Rattle.room.specs.declared.requests.ResponseRequest.{ResponseRequest}
-use Rattle.room.specs.Checks.{open_checks, respond_checks, change_checks, price_ok, size_ok, time_checked, price_checked, size_checked, member_checked, own_checked}
-use Rattle.room.proofs.Tests.{refuse_none, left_true}
+use Rattle.room.specs.Checks.{open_checks, respond_checks, change_checks, time_checked, price_checked, size_checked, member_checked, own_checked}
 
 module _ (F : Type 0) where
   pub opening_sized : (x : OpeningRequest) → open_checks {F = F} x ≡ None → leb 1 x.order.size ≡ true

@@ -17,7 +17,7 @@ use Rattle.allocation.specs.declared.order.GuaranteeKind.TheVariants.{SingleStop
 use Rattle.allocation.specs.declared.order.PairedOrder.{PairedOrder}
 use Rattle.allocation.specs.declared.response.Response.{Response}
 use Rattle.allocation.specs.Auction.{AuctionValues, with_stood, with_floor}
-use Rattle.allocation.specs.AuctionInvariant.{from_to, stop_ok, stored_ok, response_ok, each}
+use Rattle.allocation.specs.AuctionInvariant.{stop_ok, stored_ok, response_ok, each}
 use Rattle.allocation.specs.Table.{is_of, restored, own_changed, without_own, any_below}
 use Rattle.room.specs.Openings.{new_values}
 use Rattle.room.specs.Responses.{}
