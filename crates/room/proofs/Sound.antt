@@ -17,7 +17,7 @@ use Rattle.allocation.specs.declared.order.GuaranteeKind.TheVariants.{SingleStop
 use Rattle.allocation.specs.declared.order.PairedOrder.{PairedOrder}
 use Rattle.allocation.specs.declared.response.Response.{Response}
 use Rattle.allocation.specs.Auction.{AuctionValues, with_stood, with_floor}
-use Rattle.allocation.specs.AuctionInvariant.{from_to, stop_ok, stored_ok, response_ok, each}
+use Rattle.allocation.specs.AuctionInvariant.{stop_ok, stored_ok, response_ok, each}
 use Rattle.allocation.specs.Table.{is_of, restored, own_changed, without_own, any_below}
 use Rattle.room.specs.Openings.{new_values}
 use Rattle.room.specs.Responses.{}
@@ -69,11 +69,7 @@ new_sound o r s h k = record {
 
 -- a size and a price as they are stored may stand
 pub stored_may_stand : (most : ℕ) (floor initiating : ℤ) (size : ℕ) (z : ℤ) → leb 1 most ≡ true → le_z floor initiating ≡ true → leb 1 size ≡ true → lt_z initiating z ≡ false → stored_ok most floor initiating (min size most) (int_max floor z) ≡ true
-stored_may_stand most floor initiating size z a b c d =
-    let low : leb 1 (min size most) ≡ true = grind (arith, nat_tests) in
-    let high : leb (min size most) most ≡ true = grind (arith, nat_tests) in
-    let above : le_z floor (int_max floor z) ≡ true = grind (arith, ints, nat_tests) in
-    both_true (from_to 1 most (min size most)) _ (both_true (leb 1 (min size most)) _ low high) (both_true (le_z floor (int_max floor z)) _ above (most_of_two floor z initiating b d))
+stored_may_stand most floor initiating size z a b c d = grind (arith, ints, nat_tests)
 
 pub each_push : {X : Type 0} (t : X → Bool) (xs : List X) (x : X) → each t xs ≡ true → t x ≡ true → each t (xs ++ x ∷ []) ≡ true
 each_push t [] x h k = both_true (t x) true k refl
@@ -81,10 +77,7 @@ each_push t (y ∷ ys) x h k = both_true (t y) (each t (ys ++ x ∷ [])) (left_t
 
 -- a response with another size and price that may stand
 restored_ok : (most : ℕ) (floor initiating : ℤ) (size : ℕ) (z : ℤ) (n : ℕ) (x : Response) → stored_ok most floor initiating size z ≡ true → response_ok most floor initiating x ≡ true → response_ok most floor initiating (restored size z n x) ≡ true
-restored_ok most floor initiating size z n x k h =
-    let member = left_true (from_to 1 16 x.member) _ h in
-    let rest = right_true (from_to 1 16 x.member) _ h in
-    both_true (from_to 1 16 x.member) _ member (both_true (from_to 1 4 x.own) _ (left_true (from_to 1 4 x.own) _ rest) k)
+restored_ok most floor initiating size z n x k h = grind (arith, ints, nat_tests)
 
 changed_at : (b : Bool) (t : Response → Bool) (x y : Response) (xs ys : List Response) → t x ≡ true → t y ≡ true → each t xs ≡ true → each t ys ≡ true → each t (cond b (y ∷ xs) (x ∷ ys)) ≡ true
 changed_at true t x y xs ys a c d e = both_true (t y) (each t xs) c d
@@ -117,14 +110,7 @@ stood_sound v xs h k = record { sized = h.sized; in_order = h.in_order; guarante
 
 -- a response that may stand above one floor may stand above another that is not above its price
 refloored : (most : ℕ) (old new initiating : ℤ) (x : Response) → lt_z x.price new ≡ false → response_ok most old initiating x ≡ true → response_ok most new initiating x ≡ true
-refloored most old new initiating x k h =
-    let rest = right_true (from_to 1 16 x.member) _ h in
-    let last = right_true (from_to 1 4 x.own) _ rest in
-    let ends = right_true (from_to 1 most x.size) _ last in
-    let low : le_z new x.price ≡ true = grind (arith, ints, nat_tests) in
-    both_true (from_to 1 16 x.member) _ (left_true (from_to 1 16 x.member) _ h)
-    (both_true (from_to 1 4 x.own) _ (left_true (from_to 1 4 x.own) _ rest)
-    (both_true (from_to 1 most x.size) _ (left_true (from_to 1 most x.size) _ last) (both_true (le_z new x.price) _ low (right_true (le_z old x.price) _ ends))))
+refloored most old new initiating x k h = grind (arith, ints, nat_tests)
 
 all_refloored : (most : ℕ) (old new initiating : ℤ) (xs : List Response) → any_below new xs ≡ false → each (response_ok most old initiating) xs ≡ true → each (response_ok most new initiating) xs ≡ true
 all_refloored most old new initiating [] k h = refl

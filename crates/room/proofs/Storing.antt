@@ -1,6 +1,6 @@
 -- A request that has passed its checks can be carried out: the auction stores the response, changes it, and can be told of
 -- it; and a floor that brings no end can be had.
-use Rattle.std.proofs.Common.{◌≡◌, ℕ, ◌+◌, Bool, true, false, cond, not, ◌&&◌, leb, List, [], ◌∷◌, ◌++◌, ℤ, Some, None, Option, refl, ap, ◌∙◌, subst, arith}
+use Rattle.std.proofs.Common.{◌≡◌, ℕ, ◌+◌, Bool, true, false, cond, not, ◌&&◌, leb, List, [], ◌∷◌, ◌++◌, ℤ, Some, None, Option, ap, ◌∙◌, subst, arith}
 use borrow.Author.Differences.{ints}
 use lib.Signed.{le_z, lt_z}
 use Rattle.std.proofs.lemmas.Bool.Decides.{nat_tests}
@@ -37,9 +37,6 @@ terms_of a = terms_hold a.order a.floor a.initiating a.terms
 
 sized : (a : Auction) → leb 1 (auction_values a).order.size ≡ true
 sized a = left_true (leb 1 a.order.size) (leb a.order.size 100000) (left_true (from_to 1 100000 a.order.size) (range_ok a.floor a.initiating && guarantee_ok a.order.guarantee a.floor a.initiating) a.terms)
-
-between : (low z high : ℤ) → showable (Some low) ≡ true → showable (Some high) ≡ true → le_z low z ≡ true → le_z z high ≡ true → showable (Some z) ≡ true
-between low z high a b c d = grind (arith, ints, nat_tests)
 
 -- a size and a price as they are stored may stand
 may_stand : (a : CurrentAuction) (size : Size) (price : ℤ) → lt_z (auction_values a.auction).initiating (turned_in (open_values a) price) ≡ false
@@ -122,19 +119,19 @@ found_has t m o [] y h e = none_some y e
 found_has t m o (x ∷ xs) y h e = found_at (is_of m o x) t x y (own_response m o xs) (left_true (t x) _ h) (found_has t m o xs y (right_true (t x) _ h)) e
 
 -- a standing response's price can be turned back
+shown_within : (most : ℕ) (low high : ℤ) (y : Response) → showable (Some low) ≡ true → showable (Some high) ≡ true → response_ok most low high y ≡ true → showable (Some y.price) ≡ true
+shown_within most low high y a b h = grind (arith, ints, nat_tests)
+
 pub standing_shown : (a : Auction) (m o : ℕ) (y : Response) → own_response m o (auction_values a).stood ≡ Some y → showable (Some y.price) ≡ true
 standing_shown a m o y e =
     let v = auction_values a in
-    let member = found_has (response_ok v.order.size v.floor v.initiating) m o v.stood y a.responses e in
-    let own = right_true (from_to 1 16 y.member) _ member in
-    let size = right_true (from_to 1 4 y.own) _ own in
-    let range = right_true (from_to 1 v.order.size y.size) _ size in
-    between v.floor y.price v.initiating (terms_of a).floor_shown (terms_of a).initiating_shown (left_true (le_z v.floor y.price) _ range) (right_true (le_z v.floor y.price) _ range)
+    shown_within v.order.size v.floor v.initiating y (terms_of a).floor_shown (terms_of a).initiating_shown (found_has (response_ok v.order.size v.floor v.initiating) m o v.stood y a.responses e)
 
 -- a floor that brings no end can be had
-stop_not_below : (k : GuaranteeKind) (f z : ℤ) → above_stop (Some f) k z ≡ false → stop_ok k f z ≡ true
-stop_not_below SingleStop f z h = grind (arith, ints, nat_tests)
-stop_not_below AutoMatchLimit f z h = refl
+refloored : (size : ℕ) (k : GuaranteeKind) (price old new initiating : ℤ) → (from_to 1 100000 size && (range_ok old initiating && (le_z price initiating && stop_ok k old price))) ≡ true
+    → showable (Some new) ≡ true → lt_z initiating new ≡ false → above_stop (Some new) k price ≡ false → (from_to 1 100000 size && (range_ok new initiating && (le_z price initiating && stop_ok k new price))) ≡ true
+refloored size SingleStop price old new initiating h a b c = grind (arith, ints, nat_tests)
+refloored size AutoMatchLimit price old new initiating h a b c = grind (arith, ints, nat_tests)
 
 pub floor_moves : (a : Auction) (f : ℤ) (contra : Option ℤ) → showable (Some f) ≡ true → tick_cause (auction_values a) (record { floor = Some f; contra = contra }) ≡ None → may_move_floor (auction_values a) f ≡ true
 floor_moves a f contra shown none =
@@ -142,10 +139,4 @@ floor_moves a f contra shown none =
     let first = ends_for_none (lt_z v.initiating f) _ _ none in
     let second = ends_for_none (any_below f v.stood) _ _ first.1 in
     let third = ends_for_none (above_stop (Some f) v.order.guarantee.kind v.order.guarantee.price) _ _ second.1 in
-    let above = first.0 in
-    let ordered : le_z f v.initiating ≡ true = grind (arith, ints, nat_tests) in
-    both_true (terms_ok v.order f v.initiating) _
-    (both_true (from_to 1 100000 v.order.size) _ (left_true (from_to 1 100000 v.order.size) _ a.terms)
-    (both_true (range_ok f v.initiating) _ (both_true (showable (Some f)) _ shown (both_true (showable (Some v.initiating)) _ (terms_of a).initiating_shown ordered))
-    (both_true (le_z v.order.guarantee.price v.initiating) _ (terms_of a).guaranteed_at (stop_not_below v.order.guarantee.kind f v.order.guarantee.price third.0))))
-    (ap not second.0)
+    both_true (terms_ok v.order f v.initiating) _ (refloored v.order.size v.order.guarantee.kind v.order.guarantee.price v.floor f v.initiating a.terms shown first.0 third.0) (ap not second.0)

@@ -14,6 +14,7 @@ use Rattle.room.specs.declared.auction.WaitingAuction.{WaitingAuction}
 use Rattle.room.specs.declared.claim.Claim.{Claim}
 use Rattle.room.specs.declared.refusal.Refusal.{Refusal}
 use Rattle.room.specs.declared.room.Room.{Room}
+use Rattle.room.specs.Refusals.{seen_as}
 use Rattle.room.specs.State.{OpenAuction, EndedAuction, RoomState}
 use Rattle.room.specs.World.{World}
 
@@ -36,18 +37,15 @@ listed (Some a) (Some b) = ended_values a ∷ (ended_values b ∷ [])
 module _ {F : Type 0} where
   -- The numbers of the claim that an opening was answered, or the refusal.
   abbrev pub claim_answer : Result Claim (Refusal F) → Result ClaimNumbers (Refusal F)
-  claim_answer (Ok c) = Ok (claim_numbers c)
-  claim_answer (Err e) = Err e
+  claim_answer r = seen_as r claim_numbers
 
   -- The prices of a range, or the refusal.
   abbrev pub range_result : Result PermittedRange (Refusal F) → Result RangePrices (Refusal F)
-  range_result (Ok r) = Ok (range_prices r)
-  range_result (Err e) = Err e
+  range_result r = seen_as r range_prices
 
   -- The values of an auction that waits, or the refusal.
   abbrev pub waiting_result : Result WaitingAuction (Refusal F) → Result EndedAuction (Refusal F)
-  waiting_result (Ok e) = Ok (ended_values e)
-  waiting_result (Err e) = Err e
+  waiting_result r = seen_as r ended_values
 
   -- A refused collecting hands the claim back.
   abbrev pub collected_answer : Claim → Result Collection (Refusal F) → Result Collection (Refusal F × Claim)

@@ -43,6 +43,7 @@ impl<M: Market, R: Ranking, S: IntervalSource> Room<M, R, S> {
         if self.is_open(claim.numbers.auction) {
             return Err(Refusal::StillOpen);
         }
+        // No `ok_or`, which would have to drop a refusal, and so a market's fault.
         self.numbered(claim.numbers.auction)
             .ok_or_else(|| Refusal::NoSuchAuction)
     }

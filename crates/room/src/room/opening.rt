@@ -84,9 +84,9 @@ impl<M: Market, R: Ranking, S: IntervalSource> Room<M, R, S> {
         if self.first.is_some() || self.second.is_some() {
             return Err(Refusal::AuctionWaits);
         }
-        let range = permitted_range(&self.market, order.side, order.limit.cents).map_err(
-            |told| range_refusal(told),
-        )?;
+        let permitted = permitted_range(&self.market, order.side, order.limit.cents);
+        // A closure: the check does not cover a function's own name there whose result names the market's fault.
+        let range = permitted.map_err(|told| range_refusal(told))?;
         if is_guarantee_above(order, &range) {
             return Err(Refusal::GuaranteeAboveInitiating);
         }

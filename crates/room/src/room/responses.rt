@@ -1,5 +1,6 @@
-// Responding to the open auction, changing a response and withdrawing one. The open auction is lent by a pattern: after
-// `as_mut` and `?` the check no longer knew it where a call is refused. `ok_or` would have to drop a market's fault.
+// Responding to the open auction, changing a response and withdrawing one.
+// The open auction is lent by a pattern: after `as_mut` and `?` the check no longer knows it where a call is refused.
+// No `ok_or`, which would have to drop a refusal, and so a market's fault.
 ghost use Rattle.std.specs.Prelude.{◌≡◌};
 ghost use Rattle.room.specs.Responses.{respond_call, change_call, withdraw_call};
 ghost use Rattle.room.specs.Rooms.{state_of};
@@ -51,8 +52,7 @@ impl<M: Market, R: Ranking, S: IntervalSource> Room<M, R, S> {
             .response_of(change.member.response(change.own))
             .ok_or_else(|| Refusal::NoSuchResponse)?;
         open.check_change(&standing, &change)?;
-        let stored = open.change(&change);
-        Ok(stored)
+        Ok(open.change(&change))
     }
 
     // Removes a sealed response that stands.
@@ -73,7 +73,6 @@ impl<M: Market, R: Ranking, S: IntervalSource> Room<M, R, S> {
         if standing.kind == Kind::Plain {
             return Err(Refusal::ResponseIsPlain);
         }
-        let stored = open.withdraw(&withdrawal, &standing);
-        Ok(stored)
+        Ok(open.withdraw(&withdrawal, &standing))
     }
 }
