@@ -6,5 +6,4 @@ ghost use Rattle.figures.specs.Figures.{WorkedFigures};
 // Its contract is the list of figures; it does nothing.
 pub fn figures_hold()
     ensures { WorkedFigures }
-{
-}
+{}

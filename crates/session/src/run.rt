@@ -24,6 +24,7 @@ struct Memory<F> {
 }
 
 // A list of rows for each collecting, a place for each answer, and a place in the purse for each call.
+// `calls` is a `&Vec`: a slice of one field of `handed`, lent beside a `&mut` of another, was tried and gets no proof.
 fn take_memory<T, F: Drop>(
     heap: Global,
     calls: &Vec<Call<T>>,
