@@ -17,7 +17,7 @@ impl FixedInterval {
     pub fn new(length: u32) -> Result<FixedInterval, IntervalRefusal>
         ensures { fixed_length result ≡ fixed_made length }
     {
-        if length < LEAST || length > MOST {
+        if !(LEAST..=MOST).contains(&length) {
             return Err(IntervalRefusal::LengthOutsideLimits);
         }
         Ok(FixedInterval { length })
