@@ -6,11 +6,7 @@ ghost use Rattle.std.proofs.Common.{rules, arith};
 
 use super::FixedInterval;
 use crate::refusal::IntervalRefusal;
-use crate::source::IntervalSource;
-
-const LEAST: u32 = 100;
-
-const MOST: u32 = 1_000;
+use crate::source::{IntervalSource, LEAST, MOST};
 
 impl FixedInterval {
     // A length outside 100 to 1,000 is refused.

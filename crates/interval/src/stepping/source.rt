@@ -4,13 +4,11 @@ ghost use Rattle.interval.specs.Stepping.{stepped, drawn, stepping_meaning};
 ghost use Rattle.std.proofs.Common.{rules};
 
 use super::SteppingInterval;
-use crate::source::IntervalSource;
+use crate::source::{IntervalSource, LEAST};
 
 const FACTOR: u32 = 1_664_525;
 
 const SUMMAND: u32 = 1_013_904_223;
-
-const LEAST: u32 = 100;
 
 const LENGTHS: u32 = 901;
 

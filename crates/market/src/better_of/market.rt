@@ -9,6 +9,8 @@ use super::{BetterOf, Half, InLeft, InRight};
 use crate::market::Market;
 use crate::quote::Quote;
 
+// No price does not count, here and for the lower. The two stay apart: one function would take `max` or `min` as a closure,
+// and a clause on what it answers, each longer than these lines.
 fn higher_of(x: Option<i64>, y: Option<i64>) -> Option<i64>
     ensures { result ≡ higher x y }
 {
