@@ -1,10 +1,10 @@
 -- How far prices go: a leg adds at most 9 × 1,000,000 cents either way, four legs at most 36,000,000, and a turned price
 -- goes as far as the price.
 use Rattle.std.specs.Prelude.{◌≡◌, ℕ, ◌+◌, ◌*◌, ◌≤◌, true, List, [], ℤ, pos, negsuc, ◌*ℤ◌, Some, None, Option, FitsSigned, refl}
-use Rattle.std.proofs.Common.{ap, ◌∙◌, mul-le-mul, arith}
+use Rattle.std.proofs.Common.{ap, ◌∙◌, mul-le-mul, arith, to_z, of_z}
 use Rattle.std.proofs.Math.IntN.{pos-*ℤ-pos}
 use Rattle.std.specs.Int.{w64}
-use Rattle.std.proofs.lemmas.Int.{ints}
+use Rattle.std.proofs.lemmas.Int.{to_z-of_z, ints}
 use Rattle.std.proofs.lemmas.Bool.Decides.{nat_tests}
 use Rattle.market.specs.declared.legs.Legs.{Legs}
 use Rattle.market.specs.declared.legs.leg.Leg.{Leg}
@@ -35,6 +35,14 @@ small_fits (negsuc n) h = record { sfits = grind (arith, nat_tests) }
 pub leg_price_within : (z : ℤ) → leg_price_ok z ≡ true → within 9000000 (Some z) ≡ true
 leg_price_within (pos p) h = grind (arith, nat_tests)
 leg_price_within (negsuc p) h = grind arith
+
+-- the product as the machine has it, of a ratio that became r
+pub product_is : (n : ℕ) (r z : ℤ) → r ≡ pos n → n ≤ 9 → leg_price_ok z ≡ true → to_z w64 (of_z w64 r) *ℤ to_z w64 (of_z w64 z) ≡ pos n *ℤ z
+product_is n r z e h k =
+    let small : within 9000000 (Some (pos n)) ≡ true = grind (arith, nat_tests) in
+    let f : FitsSigned w64 (pos n) = small_fits (pos n) small in
+    let g : FitsSigned w64 z = small_fits z (leg_price_within z k) in
+    rw e (rw (to_z-of_z w64 (pos n) f, to_z-of_z w64 z g))
 
 -- a turned price goes as far as the price
 pub turned_within : (n : ℕ) (side : Side) (z : ℤ) → within n (Some (turned side z)) ≡ within n (Some z)
