@@ -3,17 +3,15 @@ ghost use Rattle.std.specs.Prelude.{◌≡◌};
 ghost use Rattle.interval.specs.Refusals.{interval_refusal_number};
 
 // An interval source that cannot be made as asked.
-#[derive(Clone, Copy)]
+#[derive(Clone, Copy, PartialEq, Eq, Debug)]
 pub enum IntervalRefusal {
-    LengthOutsideLimits,
+    LengthOutsideLimits = 8,
 }
 
 impl IntervalRefusal {
     pub fn number(self) -> u8
         ensures { result ≡ interval_refusal_number self }
     {
-        match self {
-            IntervalRefusal::LengthOutsideLimits => 8,
-        }
+        self as u8
     }
 }

@@ -2,6 +2,11 @@
 ghost use Rattle.std.specs.Prelude.{◌≡◌};
 ghost use Rattle.interval.specs.Source.{SourceMeaning, WithinLimits};
 
+// The shortest interval, and the longest, in milliseconds.
+pub const LEAST: u32 = 100;
+
+pub const MOST: u32 = 1_000;
+
 pub trait IntervalSource {
     // All of the source that its answers depend on.
     ghost Position: { Type 0 };

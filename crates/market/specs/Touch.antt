@@ -9,7 +9,7 @@ use Rattle.market.specs.Prices.{in_limits, uncrossed}
 
 -- A touch is at the quote that it took last.
 abbrev pub touch_quote : Touch → Quote
-touch_quote t = record { bid = t.bid; offer = t.offer }
+touch_quote t = t.quote
 
 -- Prices are −40,000,000 to 40,000,000, the bid is looked at first (place 0), then the offer (place 1); then, where
 -- both are given, the bid is below the offer (place 0).

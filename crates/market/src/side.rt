@@ -26,7 +26,8 @@ impl Side {
         }
     }
 
-    // The same, of a price that a market may show.
+    // The same, of a price that a market may show. It stands beside `turn`, whose second clause would ask each caller for
+    // a proof of its premise.
     pub(crate) fn turn_shown(self, price: i64) -> i64
         requires { showable (Some price) ≡ true }
         ensures { result ≡ turned self price }

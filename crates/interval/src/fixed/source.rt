@@ -6,18 +6,14 @@ ghost use Rattle.std.proofs.Common.{rules, arith};
 
 use super::FixedInterval;
 use crate::refusal::IntervalRefusal;
-use crate::source::IntervalSource;
-
-const LEAST: u32 = 100;
-
-const MOST: u32 = 1_000;
+use crate::source::{IntervalSource, LEAST, MOST};
 
 impl FixedInterval {
     // A length outside 100 to 1,000 is refused.
     pub fn new(length: u32) -> Result<FixedInterval, IntervalRefusal>
         ensures { fixed_length result ≡ fixed_made length }
     {
-        if length < LEAST || length > MOST {
+        if !(LEAST..=MOST).contains(&length) {
             return Err(IntervalRefusal::LengthOutsideLimits);
         }
         Ok(FixedInterval { length })

@@ -4,23 +4,19 @@ ghost use Rattle.interval.specs.Stepping.{stepped, drawn, stepping_meaning};
 ghost use Rattle.std.proofs.Common.{rules};
 
 use super::SteppingInterval;
-use crate::source::IntervalSource;
+use crate::source::{IntervalSource, LEAST};
 
-const FACTOR: u64 = 1_664_525;
+const FACTOR: u32 = 1_664_525;
 
-const SUMMAND: u64 = 1_013_904_223;
-
-const MODULUS: u64 = 4_294_967_296;
-
-const LEAST: u32 = 100;
+const SUMMAND: u32 = 1_013_904_223;
 
 const LENGTHS: u32 = 901;
 
-// The seed that follows.
+// The seed that follows, in 32 bits.
 fn next_seed(seed: u32) -> u32
     ensures { result ≡ stepped seed }
 {
-    ((FACTOR * u64::from(seed) + SUMMAND) % MODULUS) as u32
+    FACTOR.wrapping_mul(seed).wrapping_add(SUMMAND)
 }
 
 impl IntervalSource for SteppingInterval {

@@ -9,24 +9,18 @@ use super::{BetterOf, Half, InLeft, InRight};
 use crate::market::Market;
 use crate::quote::Quote;
 
+// No price does not count, here and for the lower. The two stay apart: one function would take `max` or `min` as a closure,
+// and a clause on what it answers, each longer than these lines.
 fn higher_of(x: Option<i64>, y: Option<i64>) -> Option<i64>
     ensures { result ≡ higher x y }
 {
-    match (x, y) {
-        (Some(a), Some(b)) => Some(a.max(b)),
-        (Some(a), None) => Some(a),
-        (None, other) => other,
-    }
+    x.zip(y).map(|(a, b)| a.max(b)).or(x).or(y)
 }
 
 fn lower_of(x: Option<i64>, y: Option<i64>) -> Option<i64>
     ensures { result ≡ lower x y }
 {
-    match (x, y) {
-        (Some(a), Some(b)) => Some(a.min(b)),
-        (Some(a), None) => Some(a),
-        (None, other) => other,
-    }
+    x.zip(y).map(|(a, b)| a.min(b)).or(x).or(y)
 }
 
 impl<X, Y> BetterOf<X, Y> {

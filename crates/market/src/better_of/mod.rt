@@ -4,14 +4,15 @@ ghost use Rattle.market.specs.declared.better_of.Half.TheVariants.{Left, Right};
 
 pub mod market;
 
-// What belongs to one half: a tick for it, or its fault.
+// What belongs to one half: a tick for it, or its fault. It is no `Result`: neither half is a failure of the other.
 #[derive(Drop)]
 pub enum Half<S, T> {
     Left(S),
     Right(T),
 }
 
-// The left half's fault, and the right half's: each on its way to the fault of the whole.
+// The left half's fault, and the right half's: each on its way to the fault of the whole. There are two types, since
+// `From` has to tell the halves apart where both have faults of one type.
 #[derive(Drop)]
 pub struct InLeft<E> {
     pub fault: E,

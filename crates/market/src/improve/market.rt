@@ -1,6 +1,7 @@
 // An improved market as a market: ticks and faults pass through.
-ghost use Rattle.std.specs.Prelude.{◌≡◌, ℕ, ◌≤◌, true};
-ghost use Rattle.market.specs.Improve.{improve_made, improve_parts, raised_bid, lowered_offer, improved_quote, improve_meaning};
+ghost use Rattle.std.specs.Prelude.{◌≡◌, ℕ, ◌≤◌, true, ◌+ℤ◌, unsigned_abs};
+ghost use Rattle.std.specs.Option.{option_map};
+ghost use Rattle.market.specs.Improve.{improve_made, improve_parts, held, improved_quote, improve_meaning};
 ghost use Rattle.market.specs.Meaning.{Bounded};
 ghost use Rattle.market.specs.Prices.{showable};
 ghost use Rattle.std.proofs.Common.{rules, arith};
@@ -11,20 +12,13 @@ use crate::prices::MOST_SHOWN;
 use crate::quote::Quote;
 use crate::refusal::SetupRefusal;
 
-fn raised(price: Option<i64>, step: u8) -> Option<i64>
+// A price moved by so many cents, as far as a market shows prices.
+fn moved(price: Option<i64>, by: i64) -> Option<i64>
     requires price { showable price ≡ true }
-    requires step { step ≤ 9 }
-    ensures { result ≡ raised_bid step price }
+    requires by { unsigned_abs by ≤ 9 }
+    ensures { result ≡ option_map (λ z. held (z +ℤ by)) price }
 {
-    price.map(|z| (z + i64::from(step)).clamp(-MOST_SHOWN, MOST_SHOWN))
-}
-
-fn lowered(price: Option<i64>, step: u8) -> Option<i64>
-    requires price { showable price ≡ true }
-    requires step { step ≤ 9 }
-    ensures { result ≡ lowered_offer step price }
-{
-    price.map(|z| (z - i64::from(step)).clamp(-MOST_SHOWN, MOST_SHOWN))
+    price.map(|z| (z + by).clamp(-MOST_SHOWN, MOST_SHOWN))
 }
 
 impl<M> Improve<M> {
@@ -62,9 +56,10 @@ impl<M: Market> Market for Improve<M> {
         ensures leaves { self.exit.now ≡ self.entry.now }
     {
         let inner = self.inner.shown();
+        let step = i64::from(self.step);
         Quote {
-            bid: raised(inner.bid, self.step),
-            offer: lowered(inner.offer, self.step),
+            bid: moved(inner.bid, step),
+            offer: moved(inner.offer, -step),
         }
     }
 

@@ -1,4 +1,7 @@
 // One leg of a strategy.
+ghost use Rattle.std.specs.Prelude.{◌≡◌};
+ghost use Rattle.market.specs.Legs.{unquoted};
+
 use crate::side::Side;
 
 // A leg as it is asked for: its side, and how many of it a unit of the strategy has.
@@ -28,6 +31,19 @@ pub struct Leg {
     pub side: Side,
     pub ratio: u8,
     pub quote: Option<LegQuote>,
+}
+
+// A leg as it is asked for has no quote yet.
+impl From<LegTerms> for Leg {
+    ghost from_gives = { λ terms leg. leg ≡ unquoted terms };
+
+    fn from(terms: LegTerms) -> Leg {
+        Leg {
+            side: terms.side,
+            ratio: terms.ratio,
+            quote: None,
+        }
+    }
 }
 
 // Which of a strategy's two prices is meant.

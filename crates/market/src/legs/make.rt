@@ -1,7 +1,7 @@
 // Making a strategy out of legs.
 ghost use Rattle.std.specs.Prelude.{◌≡◌, ◌≤◌};
 ghost use Rattle.market.specs.LegSteps.{smallest_with};
-ghost use Rattle.market.specs.Legs.{legs_of, made_legs, legs_made, legs_add, legs_added, unquoted, smallest_ratio};
+ghost use Rattle.market.specs.Legs.{legs_of, made_legs, legs_made, legs_add, legs_added, smallest_ratio};
 ghost use Rattle.market.specs.OneToNine.{one_to_nine};
 
 use super::Legs;
@@ -12,16 +12,6 @@ fn one_to_nine(ratio: u8) -> bool
     ensures { result ≡ one_to_nine ratio }
 {
     (1..=9).contains(&ratio)
-}
-
-fn unquoted_leg(terms: LegTerms) -> Leg
-    ensures { result ≡ unquoted terms }
-{
-    Leg {
-        side: terms.side,
-        ratio: terms.ratio,
-        quote: None,
-    }
 }
 
 fn smaller(leg: Option<Leg>, ratio: u8) -> u8
@@ -39,8 +29,8 @@ impl Legs {
             return Err(SetupRefusal::RatioOrStep);
         }
         Ok(Legs {
-            first: unquoted_leg(first),
-            second: unquoted_leg(second),
+            first: Leg::from(first),
+            second: Leg::from(second),
             third: None,
             fourth: None,
         })
@@ -55,8 +45,8 @@ impl Legs {
             return Err(SetupRefusal::RatioOrStep);
         }
         match (self.third, self.fourth) {
-            (None, _) => self.third = Some(unquoted_leg(leg)),
-            (_, None) => self.fourth = Some(unquoted_leg(leg)),
+            (None, _) => self.third = Some(Leg::from(leg)),
+            (_, None) => self.fourth = Some(Leg::from(leg)),
             (Some(_), Some(_)) => return Err(SetupRefusal::FifthLeg),
         }
         Ok(())

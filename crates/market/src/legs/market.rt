@@ -74,11 +74,7 @@ impl Legs {
     fn count(&self) -> u32
         ensures { result ≡ length (legs_of self.now) }
     {
-        match (self.third, self.fourth) {
-            (None, None) => 2,
-            (Some(_), Some(_)) => 4,
-            _ => 3,
-        }
+        2 + u32::from(self.third.is_some()) + u32::from(self.fourth.is_some())
     }
 
     // The leg of this number takes the quote.

@@ -9,6 +9,8 @@ pub mod sum;
 
 use leg::Leg;
 
+// Four fields, and no list: making legs cannot fail, so they take no heap, and an array could not say that the first two
+// are always there.
 #[derive(Clone, Copy)]
 pub struct Legs {
     first: Leg,

@@ -7,7 +7,8 @@ use crate::side::Side;
 pub mod permitted;
 
 // What a market shows to an order of one side, on turned prices: the shown bid and the shown offer, and for a sell order
-// the turned offer and the turned bid.
+// the turned offer and the turned bid. That both may be shown stands in the clauses and not in the type: the definitions
+// build this record, which they could not with an invariant in it.
 #[derive(Clone, Copy)]
 pub struct TurnedQuote {
     pub floor: Option<i64>,

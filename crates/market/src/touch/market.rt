@@ -55,8 +55,7 @@ impl Touch {
         ensures { touch_quote result ≡ nothing_shown }
     {
         Touch {
-            bid: None,
-            offer: None,
+            quote: Quote::default(),
         }
     }
 }
@@ -80,10 +79,7 @@ impl Market for Touch {
         ensures answer { result ≡ touch_quote self.now }
         ensures leaves { self.exit.now ≡ self.entry.now }
     {
-        Quote {
-            bid: self.bid,
-            offer: self.offer,
-        }
+        self.quote
     }
 
     fn tick(&mut self, tick: Quote) -> Result<(), Fault>
@@ -91,10 +87,7 @@ impl Market for Touch {
         ensures next { touch_quote self.new ≡ touch_next (touch_quote self.old) tick }
     {
         fault_of(tick)?;
-        *self = Touch {
-            bid: tick.bid,
-            offer: tick.offer,
-        };
+        *self = Touch { quote: tick };
         Ok(())
     }
 }

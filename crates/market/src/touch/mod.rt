@@ -2,12 +2,13 @@
 ghost use Rattle.std.specs.Prelude.{◌≡◌, true};
 ghost use Rattle.market.specs.Prices.{in_limits};
 
+use crate::quote::Quote;
+
 pub mod market;
 
 #[derive(Clone, Copy)]
 pub struct Touch {
-    bid: Option<i64>,
-    offer: Option<i64>,
-    ghost bid_within: { in_limits bid ≡ true },
-    ghost offer_within: { in_limits offer ≡ true },
+    quote: Quote,
+    ghost bid_within: { in_limits quote.bid ≡ true },
+    ghost offer_within: { in_limits quote.offer ≡ true },
 }

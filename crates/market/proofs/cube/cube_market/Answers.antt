@@ -6,6 +6,5 @@ use Rattle.market.specs.Legs.{legs_of}
 use Rattle.market.proofs.CubeLastQuotes.{shows_last_quotes}
 use Rattle.market.proofs.cube.cube_market.Goals as goal
 
-pub returns : goal.returns
-returns c =
-    record { made = c.pile.ensures; last_quotes = λ ts. ap (λ p. cube_meaning.shows (after cube_meaning p ts)) c.pile.ensures ∙ shows_last_quotes (legs_of c.args.legs) ts }
+pub returns-clause-last_quotes : goal.returns-clause-last_quotes
+returns-clause-last_quotes c = λ ts. ap (λ p. cube_meaning.shows (after cube_meaning p ts)) c.pile.ensures ∙ shows_last_quotes (legs_of c.args.legs) ts

@@ -5,10 +5,7 @@ use Rattle.market.specs.RangeLaws.{RangeLaws}
 use Rattle.market.proofs.RangeLawful.{range_laws}
 use Rattle.market.proofs.range.permitted.permitted_range.Goals as goal
 
-pub returns : goal.returns
-returns g c =
+pub returns-clause-laws : goal.returns-clause-laws
+returns-clause-laws g c =
     let is : range_answer c.judged.result ≡ permitted c.args.side c.args.limit (g.M.Market.meaning.shows (g.M.Market.position c.args.market.now)) = search rules in
-    record {
-      answer = is;
-      laws = subst (RangeLaws c.args.side c.args.limit _) (sym is) (range_laws c.args.side c.args.limit _);
-    }
+    subst (RangeLaws c.args.side c.args.limit _) (sym is) (range_laws c.args.side c.args.limit _)
