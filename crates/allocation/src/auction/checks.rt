@@ -1,5 +1,5 @@
 // Which responses may stand in an auction.
-ghost use Rattle.std.specs.Prelude.{◌≡◌, ◌&&◌};
+ghost use Rattle.std.specs.Prelude.{◌≡◌, ◌&&◌, int_le};
 ghost use Rattle.allocation.specs.Auction.{auction_values, may_store};
 ghost use Rattle.allocation.specs.AuctionInvariant.{stored_ok, response_ok, arrival_free};
 ghost use Rattle.allocation.specs.Table.{standing};
@@ -9,11 +9,18 @@ use crate::limits::{is_member, is_own_number};
 use crate::response::{NewTerms, Response};
 
 impl Auction {
+    // A price, turned, that is in the auction's range.
+    fn is_in_range(&self, price: i64) -> bool
+        ensures { result ≡ (int_le self.now.floor price && int_le price self.now.initiating) }
+    {
+        (self.floor..=self.initiating).contains(&price)
+    }
+
     // A size and a price, turned, at which a response may stand.
     fn may_stand_at(&self, size: u32, price: i64) -> bool
         ensures { result ≡ stored_ok self.now.order.size self.now.floor self.now.initiating size price }
     {
-        (1..=self.order.size).contains(&size) && (self.floor..=self.initiating).contains(&price)
+        (1..=self.order.size).contains(&size) && self.is_in_range(price)
     }
 
     fn may_stand(&self, response: &Response) -> bool

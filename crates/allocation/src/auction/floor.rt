@@ -6,18 +6,31 @@ use super::Auction;
 use super::make::AuctionTerms;
 
 impl Auction {
+    // The terms of the auction with another floor.
+    fn terms_from(&self, floor: i64) -> AuctionTerms
+        ensures order { result.order ≡ self.now.order }
+        ensures floor { result.floor ≡ floor }
+        ensures initiating { result.initiating ≡ self.now.initiating }
+    {
+        AuctionTerms {
+            order: self.order,
+            floor,
+            initiating: self.initiating,
+        }
+    }
+
+    fn may_move_floor(&self, floor: i64) -> bool
+        ensures { result ≡ may_move_floor (auction_values self.now) floor }
+    {
+        self.terms_from(floor).hold() && !self.is_any_below(floor)
+    }
+
     // Gives the auction another floor, if an auction can have it; false, and nothing changes, where it cannot.
-    #[tactic(auto, using(crate::proofs::OwnsKept::each_raised))]
     pub fn move_floor(&mut self, floor: i64) -> bool
         ensures answer { result ≡ may_move_floor (auction_values self.old) floor }
         ensures after { auction_values self.new ≡ (if may_move_floor (auction_values self.old) floor then with_floor (auction_values self.old) floor else auction_values self.old) }
     {
-        let terms = AuctionTerms {
-            order: self.order,
-            floor,
-            initiating: self.initiating,
-        };
-        if !terms.hold() || self.is_any_below(floor) {
+        if !self.may_move_floor(floor) {
             return false;
         }
         self.floor = floor;
