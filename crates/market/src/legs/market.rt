@@ -61,15 +61,6 @@ fn quoted_leg(leg: Leg, quote: LegQuote) -> Leg
     }
 }
 
-fn quoted_if_any(leg: Option<Leg>, quote: LegQuote) -> Option<Leg>
-    requires leg { optional_leg_ok leg ≡ true }
-    requires quote { leg_quote_ok quote ≡ true }
-    ensures value { result ≡ option_map (quoted quote) leg }
-    ensures ok { optional_leg_ok result ≡ true }
-{
-    leg.map(|l| quoted_leg(l, quote))
-}
-
 impl Legs {
     fn count(&self) -> u32
         ensures { result ≡ length (legs_of self.now) }
@@ -85,8 +76,8 @@ impl Legs {
         match number {
             1 => self.first = quoted_leg(self.first, quote),
             2 => self.second = quoted_leg(self.second, quote),
-            3 => self.third = quoted_if_any(self.third, quote),
-            4 => self.fourth = quoted_if_any(self.fourth, quote),
+            3 => self.third = self.third.map(|leg| quoted_leg(leg, quote)),
+            4 => self.fourth = self.fourth.map(|leg| quoted_leg(leg, quote)),
             _ => {}
         }
     }

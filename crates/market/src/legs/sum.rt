@@ -56,10 +56,7 @@ fn add_leg(shown: QuoteSide, leg: Option<Leg>, rest: Option<i64>) -> Option<i64>
     requires rest { within 27000000 rest ≡ true }
     ensures { result ≡ sum_with shown leg rest }
 {
-    match leg {
-        None => rest,
-        Some(l) => add(part_of(shown, l), rest),
-    }
+    leg.map_or(rest, |l| add(part_of(shown, l), rest))
 }
 
 impl Legs {
