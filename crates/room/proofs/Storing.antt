@@ -24,7 +24,7 @@ use Rattle.room.specs.declared.handed_in.CheckedChange.{CheckedChange}
 use Rattle.room.specs.declared.handed_in.CheckedResponse.{CheckedResponse}
 use Rattle.room.specs.declared.limits.Size.{Size}
 use Rattle.room.specs.HandedIn.{response_given, change_given}
-use Rattle.room.specs.Storing.{MayRespond, MayChange}
+use Rattle.room.specs.Storing.{ResponsePasses, ChangePasses}
 use Rattle.room.specs.Ticks.{above_stop, tick_cause}
 use Rattle.room.specs.Counts.{all_arrived}
 use Rattle.room.proofs.Counting.{next_is_free, arrived_next}
@@ -47,7 +47,7 @@ may_stand a size price not_above =
     (sized a.auction) (terms_of a.auction).in_order (left_true (leb 1 size.contracts) _ size.in_limits) not_above
 
 -- a response is stored
-stores : (a : CurrentAuction) (x : CheckedResponse) → MayRespond (open_values a) (response_given x)
+stores : (a : CurrentAuction) (x : CheckedResponse) → ResponsePasses (open_values a) (response_given x)
     → stored (auction_values a.auction) (as_stored (open_values a) (response_given x)) ≡ with_stood (auction_values a.auction) ((auction_values a.auction).stood ++ as_stored (open_values a) (response_given x) ∷ [])
 stores a x ok =
     let v = auction_values a.auction in
@@ -58,7 +58,7 @@ stores a x ok =
     ap (λ (b : Bool). cond b (with_stood v (v.stood ++ y ∷ [])) v) may
 
 -- a change is made
-changes : (a : CurrentAuction) (x : CheckedChange) → MayChange (open_values a) (change_given x)
+changes : (a : CurrentAuction) (x : CheckedChange) → ChangePasses (open_values a) (change_given x)
     → changed (auction_values a.auction) x.member.number x.own.number (stored_size (open_values a) x.size.contracts) (stored_price (open_values a) x.price.cents) (a.arrivals + 1) ≡ (with_change (open_values a) (change_given x)).values
 changes a x ok =
     let v = auction_values a.auction in
@@ -78,7 +78,7 @@ changed_same v v' m o n n' z z' k k' a b c d i = changed (a i) m o (b i) (c i) (
 
 -- what was counted is stored, or changed
 module _ (a b : CurrentAuction) (size arrival : ℕ) (price : ℤ) (after : AuctionValues) where
-  pub counted_stores : (x : CheckedResponse) → MayRespond (open_values a) (response_given x) → open_values b ≡ with_counted (open_values a) x.member.number (auction_values a.auction).stood
+  pub counted_stores : (x : CheckedResponse) → ResponsePasses (open_values a) (response_given x) → open_values b ≡ with_counted (open_values a) x.member.number (auction_values a.auction).stood
       → size ≡ stored_size (open_values a) x.size.contracts → price ≡ stored_price (open_values a) x.price.cents → arrival ≡ a.arrivals + 1
       → after ≡ stored (auction_values b.auction) (record { member = x.member.number; own = x.own.number; kind = x.kind; class = x.class; size = size; price = price; arrival = arrival })
       → with_values (open_values b) after ≡ with_response (open_values a) (response_given x)
@@ -87,7 +87,7 @@ module _ (a b : CurrentAuction) (size arrival : ℕ) (price : ℤ) (after : Auct
       (is ∙ stored_same _ _ (response_given x) size _ price _ arrival _ (ap (λ (o : OpenAuction). o.values) count) e f k ∙ stores a x ok)
       ∙ ap (λ (o : OpenAuction). with_values o (with_response (open_values a) (response_given x)).values) count
 
-  pub counted_changes : (x : CheckedChange) → MayChange (open_values a) (change_given x) → open_values b ≡ with_counted (open_values a) x.member.number (auction_values a.auction).stood
+  pub counted_changes : (x : CheckedChange) → ChangePasses (open_values a) (change_given x) → open_values b ≡ with_counted (open_values a) x.member.number (auction_values a.auction).stood
       → size ≡ stored_size (open_values a) x.size.contracts → price ≡ stored_price (open_values a) x.price.cents → arrival ≡ a.arrivals + 1
       → after ≡ changed (auction_values b.auction) x.member.number x.own.number size price arrival
       → with_values (open_values b) after ≡ with_change (open_values a) (change_given x)

@@ -6,7 +6,7 @@ ghost use Rattle.room.specs.HandedIn.{response_given, change_given, withdrawal_g
 ghost use Rattle.room.specs.Responses.{stored_price, stored_size, terms_told, with_counted, with_response, with_change, with_withdrawal};
 ghost use Rattle.room.specs.Rooms.{open_values};
 ghost use Rattle.room.specs.State.{used_by};
-ghost use Rattle.room.specs.Storing.{MayRespond, MayChange};
+ghost use Rattle.room.specs.Storing.{ResponsePasses, ChangePasses};
 
 use super::CurrentAuction;
 use crate::answers::StoredTerms;
@@ -56,7 +56,7 @@ impl CurrentAuction {
 
     // Stores a response behind the others.
     pub(crate) fn store(&mut self, response: &CheckedResponse) -> StoredTerms
-        requires { MayRespond (open_values self.old) (response_given response.now) }
+        requires { ResponsePasses (open_values self.old) (response_given response.now) }
         ensures after { open_values self.new ≡ with_response (open_values self.old) (response_given response.now) }
         ensures answer { result ≡ terms_told (open_values self.old) (stored_price (open_values self.old) response.now.price.cents) (stored_size (open_values self.old) response.now.size.contracts) }
     {
@@ -78,7 +78,7 @@ impl CurrentAuction {
 
     // Changes the standing response of this member with this own number, and no other.
     pub(crate) fn change(&mut self, change: &CheckedChange) -> StoredTerms
-        requires { MayChange (open_values self.old) (change_given change.now) }
+        requires { ChangePasses (open_values self.old) (change_given change.now) }
         ensures after { open_values self.new ≡ with_change (open_values self.old) (change_given change.now) }
         ensures answer { result ≡ terms_told (open_values self.old) (stored_price (open_values self.old) change.now.price.cents) (stored_size (open_values self.old) change.now.size.contracts) }
     {
