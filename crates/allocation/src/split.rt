@@ -29,7 +29,8 @@ pub struct Split {
     pub others: u64,
 }
 
-// What the contra and the others get, once the customers have theirs.
+// What the contra and the others get, once the customers have theirs. That this is no more than is left stands in the
+// clauses of each function: it is a fact of the rest and of what was left, which the rest does not hold.
 #[derive(Clone, Copy)]
 pub struct Rest {
     pub contra: u64,

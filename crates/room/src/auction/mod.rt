@@ -12,7 +12,8 @@ pub(crate) mod responses;
 mod store;
 mod ticks;
 
-// The open auction. Arrival numbers count up over all members; `used` has a place for each member.
+// The open auction. Arrival numbers count up over all members; `used` has a place for each of the 16 members, in fixed memory,
+// since a room takes no heap (a rule of the project).
 #[derive(Clone, Copy)]
 pub(crate) struct CurrentAuction {
     pub(crate) number: u32,
