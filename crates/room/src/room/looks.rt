@@ -10,6 +10,7 @@ use interval::source::IntervalSource;
 use market::market::Market;
 
 impl<M: Market, R: Ranking, S: IntervalSource> Room<M, R, S> {
+    // A sum of two, and no chain over a list of two places, which would be longer.
     fn waiting(&self) -> usize
         ensures { result ≡ length (listed self.now.first self.now.second) }
     {

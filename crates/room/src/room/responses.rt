@@ -1,4 +1,5 @@
-// Responding to the open auction, changing a response and withdrawing one.
+// Responding to the open auction, changing a response and withdrawing one. The open auction is lent by a `let .. else`: with
+// `as_mut().ok_or_else(..)?` four goals stayed open, since the check then loses what a refused call leaves.
 // The open auction is lent by a pattern: after `as_mut` and `?` the check no longer knows it where a call is refused.
 // No `ok_or`, which would have to drop a refusal, and so a market's fault.
 ghost use Rattle.std.specs.Prelude.{◌≡◌};
