@@ -81,6 +81,8 @@ impl OpeningRequest {
     }
 }
 
+// A response has five checks in common with a change. Each makes them of its own request: the two are records of their own that
+// members hand in, and sharing the checks would first copy five fields from one into the other.
 impl ResponseRequest {
     pub(crate) fn checked<F>(&self) -> Result<CheckedResponse, Refusal<F>>
         ensures { seen_as result response_given ≡ unless (respond_checks self.now) (Ok self.now) }

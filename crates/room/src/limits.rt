@@ -1,4 +1,5 @@
-// What is handed in, once it is known to be within its limits: each of these is made by its check alone.
+// What is handed in, once it is known to be within its limits: each of these is made by its check alone. They are no one type
+// with bounds as const parameters: their numbers are of four widths, and each has a refusal of its own.
 ghost use Rattle.std.specs.Prelude.{◌≡◌, ◌-◌, ◌<◌, ◌≤◌, true, Ok, Some, None as Nothing};
 ghost use Rattle.allocation.specs.AuctionInvariant.{from_to};
 ghost use Rattle.market.specs.Prices.{in_limits};
