@@ -4,7 +4,8 @@ use crate::response::{Class, Kind};
 // The fewest rows that hold every fill list: one for each of 64 responses, and one for the contra at each of 65 prices.
 pub const LEAST_ROWS: usize = 129;
 
-// The price is not turned. The contra's rows have member and own number 0.
+// The price is not turned. The contra's rows have member and own number 0: the venue's form of a row, in
+// which there is no enum of parties.
 #[derive(Clone, Copy)]
 pub struct FillRow {
     pub price: i64,

@@ -18,7 +18,8 @@ impl Cause {
     }
 }
 
-// The place is the leg's number; for a touch it is 0 for the bid and for a bid that is not below its offer, 1 for the offer.
+// The place is a number, as the venue has it, and no enum: the leg's number; for a touch it is 0 for the bid and for a bid
+// that is not below its offer, 1 for the offer.
 #[derive(Clone, Copy, PartialEq, Eq, Debug)]
 pub struct Fault {
     pub cause: Cause,

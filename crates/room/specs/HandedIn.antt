@@ -1,4 +1,4 @@
--- What was checked, as it was handed in.
+-- What was checked, as it was handed in: the same numbers, without their limits.
 use Rattle.allocation.specs.declared.order.PairedOrder.{PairedOrder}
 use Rattle.room.specs.declared.handed_in.CheckedChange.{CheckedChange}
 use Rattle.room.specs.declared.handed_in.CheckedOpening.{CheckedOpening}
@@ -10,20 +10,25 @@ use Rattle.room.specs.declared.requests.OpeningRequest.{OpeningRequest}
 use Rattle.room.specs.declared.requests.ResponseRequest.{ResponseRequest}
 use Rattle.room.specs.declared.requests.WithdrawRequest.{WithdrawRequest}
 
+-- An order with its guarantee.
 abbrev pub order_given : CheckedOrder → PairedOrder
 order_given o =
     record { side = o.side; size = o.size.contracts; limit = o.limit.cents; guarantee = record { kind = o.guarantee.kind; price = o.guarantee.price.cents } }
 
+-- An opening.
 abbrev pub opening_given : CheckedOpening → OpeningRequest
 opening_given x = record { time = x.time.milliseconds; member = x.member.number; order = order_given x.order }
 
+-- A response.
 abbrev pub response_given : CheckedResponse → ResponseRequest
 response_given x =
     record { time = x.time.milliseconds; member = x.member.number; own = x.own.number; side = x.side; kind = x.kind; class = x.class; size = x.size.contracts; price = x.price.cents }
 
+-- A change.
 abbrev pub change_given : CheckedChange → ChangeRequest
 change_given x =
     record { time = x.time.milliseconds; member = x.member.number; own = x.own.number; size = x.size.contracts; price = x.price.cents }
 
+-- A withdrawal.
 abbrev pub withdrawal_given : CheckedWithdrawal → WithdrawRequest
 withdrawal_given x = record { time = x.time.milliseconds; member = x.member.number; own = x.own.number }
