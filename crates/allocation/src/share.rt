@@ -27,6 +27,8 @@ struct Deal<'a> {
     ghost within: { contracts ≤ asked },
 }
 
+// Side and rows go side by side below, and in no struct: the rows are lent anew to each part, cut from the caller's.
+//
 // The row of a response that got so many contracts.
 fn row_of(side: Side, response: &Response, filled: u32) -> FillRow
     requires size { filled ≤ response.now.size }

@@ -46,7 +46,7 @@ pub(crate) fn guaranteed_share(size: u32, standing: usize) -> u32
     (size * percent / 100).max(1)
 }
 
-// Two numbers, what is left and what the others ask for, and no struct for them: three functions of two numbers are plainer.
+// What is left and what the others ask for: two numbers, and no struct, which would be no plainer.
 fn share_others(left: u64, asked: u64) -> Rest
     ensures value { result ≡ others_share left asked }
     ensures within { result.contra + result.others ≤ left }

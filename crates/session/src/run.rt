@@ -54,6 +54,7 @@ where
     ensures { MatchResult result (λ f. RunAsModelled (world_of M.Market.meaning S.IntervalSource.meaning (R.Ranking.ahead handed.ranking)) M.Market.position S.IntervalSource.position handed f) (λ h. HandedBack handed h) }
 {
     let mut handed = handed;
+    // No `?`: the error is what was handed in.
     let Ok(Memory { lists, mut answers }) = take_memory(heap, &handed.calls, &mut handed.purse)
     else {
         return Err(handed);
