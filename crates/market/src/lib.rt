@@ -7,6 +7,7 @@ pub mod fault;
 pub mod improve;
 pub mod legs;
 pub mod market;
+mod one_to_nine;
 pub mod prices;
 pub mod quote;
 pub mod range;

@@ -8,6 +8,7 @@ ghost use Rattle.std.proofs.Common.{rules, arith};
 
 use super::Improve;
 use crate::market::Market;
+use crate::one_to_nine::one_to_nine;
 use crate::prices::MOST_SHOWN;
 use crate::quote::Quote;
 use crate::refusal::SetupRefusal;
@@ -26,7 +27,7 @@ impl<M> Improve<M> {
     pub fn new(market: M, step: u8) -> Result<Improve<M>, (SetupRefusal, M)>
         ensures { improve_parts result ≡ improve_made market step }
     {
-        if !(1..=9).contains(&step) {
+        if !one_to_nine(step) {
             return Err((SetupRefusal::RatioOrStep, market));
         }
         Ok(Improve {

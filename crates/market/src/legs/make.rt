@@ -2,17 +2,11 @@
 ghost use Rattle.std.specs.Prelude.{◌≡◌, ◌≤◌};
 ghost use Rattle.market.specs.LegSteps.{smallest_with};
 ghost use Rattle.market.specs.Legs.{legs_of, made_legs, legs_made, legs_add, legs_added, smallest_ratio};
-ghost use Rattle.market.specs.OneToNine.{one_to_nine};
 
 use super::Legs;
 use super::leg::{Leg, LegTerms};
+use crate::one_to_nine::one_to_nine;
 use crate::refusal::SetupRefusal;
-
-fn one_to_nine(ratio: u8) -> bool
-    ensures { result ≡ one_to_nine ratio }
-{
-    (1..=9).contains(&ratio)
-}
 
 fn smaller(leg: Option<Leg>, ratio: u8) -> u8
     ensures { result ≡ smallest_with leg ratio }

@@ -120,20 +120,14 @@ impl PermittedRange {
     pub fn lowest(&self) -> i64
         ensures { result ≡ lowest_price (range_prices self.now) }
     {
-        match self.side {
-            Side::Buy => self.floor,
-            Side::Sell => -self.initiating,
-        }
+        self.floor_price().min(self.initiating_price())
     }
 
     // The highest permitted price, not turned.
     pub fn highest(&self) -> i64
         ensures { result ≡ highest_price (range_prices self.now) }
     {
-        match self.side {
-            Side::Buy => self.initiating,
-            Side::Sell => -self.floor,
-        }
+        self.floor_price().max(self.initiating_price())
     }
 
     // The contra price, not turned.
