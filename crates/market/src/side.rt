@@ -25,15 +25,6 @@ impl Side {
             Side::Sell => price.saturating_neg(),
         }
     }
-
-    // The same, of a price that a market may show. It stands beside `turn`, whose second clause would ask each caller for
-    // a proof of its premise.
-    pub(crate) fn turn_shown(self, price: i64) -> i64
-        requires { showable (Some price) ≡ true }
-        ensures { result ≡ turned self price }
-    {
-        self.turn(price)
-    }
 }
 
 // The name of the side of an order: "buy" or "sell".

@@ -38,7 +38,7 @@ fn part_of(shown: QuoteSide, leg: Leg) -> Option<i64>
 {
     let quote = leg.quote?;
     let price = price_for(shown, leg.side, quote);
-    Some(leg.side.turn_shown(times(leg.ratio, price)))
+    Some(leg.side.turn(times(leg.ratio, price)))
 }
 
 // A sum has a price where both its parts have one.

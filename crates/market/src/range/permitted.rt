@@ -19,7 +19,7 @@ fn turned_price(side: Side, price: Option<i64>) -> Option<i64>
     ensures value { result ≡ option_map (turned side) price }
     ensures bound { showable result ≡ true }
 {
-    price.map(|z| side.turn_shown(z))
+    price.map(|z| side.turn(z))
 }
 
 // What a quote means to an order of a side.
@@ -100,7 +100,7 @@ fn judged<M: Market>(market: &M, side: Side, limit: i64) -> Result<PermittedRang
     if !in_limits(limit) {
         return Err(RangeRefusal::PriceOutsideLimits);
     }
-    range_faced(side, side.turn_shown(limit), turned_quote(market, side))
+    range_faced(side, side.turn(limit), turned_quote(market, side))
 }
 
 // The range that a market permits an order of this side with this limit price, which may be any number.
@@ -134,20 +134,20 @@ impl PermittedRange {
     pub fn contra_price(&self) -> i64
         ensures { result ≡ turned self.now.side self.now.contra }
     {
-        self.side.turn_shown(self.contra)
+        self.side.turn(self.contra)
     }
 
     // The initiating price, not turned.
     pub fn initiating_price(&self) -> i64
         ensures { result ≡ turned self.now.side self.now.initiating }
     {
-        self.side.turn_shown(self.initiating)
+        self.side.turn(self.initiating)
     }
 
     // The floor, not turned.
     pub fn floor_price(&self) -> i64
         ensures { result ≡ turned self.now.side self.now.floor }
     {
-        self.side.turn_shown(self.floor)
+        self.side.turn(self.floor)
     }
 }
