@@ -42,7 +42,9 @@ impl fmt::Display for Class {
     }
 }
 
-// The stored price is turned. Arrivals count up in each auction, over responses and changes together.
+// The stored price is turned. Arrivals count up in each auction, over responses and changes together. A response has no
+// invariant: the definitions build it, and it is handed in at any price. That its price can be turned back stands in clauses,
+// or in the type of the run in which it stands (`Standing`).
 #[derive(Clone, Copy)]
 pub struct Response {
     pub member: u8,

@@ -27,7 +27,8 @@ struct Deal<'a> {
     ghost within: { contracts ≤ asked },
 }
 
-// Side and rows go side by side below, and in no struct: the rows are lent anew to each part, cut from the caller's.
+// Side and rows are handed on side by side, here and at levels: a struct would have to hold the rows as a `&mut` and lend parts
+// out of it, of which no proof is made.
 //
 // The row of a response that got so many contracts.
 fn row_of(side: Side, response: &Response, filled: u32) -> FillRow

@@ -5,7 +5,8 @@ ghost use Rattle.allocation.specs.Splits.{guaranteed, others_share, matched, cle
 use crate::order::{ContraTerms, GuaranteeKind};
 use std::cmp::Ordering;
 
-// The contracts of the order that are left at a level, and the contra's so far.
+// The contracts of the order that are left at a level, and the contra's so far. That both are 100,000 at most stands in clauses:
+// the definitions build this record, which they could not with an invariant in it.
 #[derive(Clone, Copy)]
 pub struct Progress {
     pub left: u64,
@@ -46,7 +47,8 @@ pub(crate) fn guaranteed_share(size: u32, standing: usize) -> u32
     (size * percent / 100).max(1)
 }
 
-// What is left and what the others ask for: two numbers, and no struct, which would be no plainer.
+// What is left and what the others ask for: two numbers, since a struct of them would be made at each call and taken apart in
+// the next line.
 fn share_others(left: u64, asked: u64) -> Rest
     ensures value { result ≡ others_share left asked }
     ensures within { result.contra + result.others ≤ left }

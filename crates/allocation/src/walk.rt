@@ -14,7 +14,8 @@ use crate::split::Progress;
 use market::side::Side;
 
 // How far a walk has come: the contra's own price while it is still to come, the first response and the row that are next,
-// and what is left of the order.
+// and what is left of the order. It holds places, and no rest of the responses or of the rows: the definitions build this
+// record, which they could not with the invariant of such a rest in it, and the rows are lent anew for each level.
 #[derive(Clone, Copy)]
 pub struct Walk {
     pub own: Option<i64>,
@@ -53,10 +54,10 @@ impl ShareOut<'_> {
             .responses
             .get(walk.next)
             .map(|next| next.price);
-        match (next, walk.own) {
-            (Some(next), Some(own)) => Some(next.min(own)),
-            (next, own) => next.or(own),
-        }
+        next.zip(walk.own)
+            .map(|(next, own)| next.min(own))
+            .or(next)
+            .or(walk.own)
     }
 
     // Writes the rows of the level at this price, handing on that level's run of the rows alone, and goes on behind it.

@@ -50,6 +50,7 @@ impl<M: Market, R: Ranking, S: IntervalSource> Session<M, R, S> {
         };
         let mut written = [FillRow::BLANK; LEAST_ROWS];
         let list = &mut written[..rows.min(LEAST_ROWS)];
+        // A match: with a closure under `map_err` that puts the claim back, no proof knows what the purse then holds.
         match self.room.collect(claim, list) {
             Ok(collection) => {
                 let rows = self.lists.take(&list[..collection.count]);

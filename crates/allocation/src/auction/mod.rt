@@ -15,7 +15,6 @@ pub mod read;
 pub mod store;
 pub mod withdraw;
 
-// What changes an auction answers yes or no: no error would say more than that nothing changed.
 #[derive(Clone, Copy)]
 pub struct Auction {
     pub(crate) order: PairedOrder,

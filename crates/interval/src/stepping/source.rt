@@ -4,13 +4,13 @@ ghost use Rattle.interval.specs.Stepping.{stepped, drawn, stepping_meaning};
 ghost use Rattle.std.proofs.Common.{rules};
 
 use super::SteppingInterval;
-use crate::source::{IntervalSource, LEAST};
+use crate::source::{IntervalSource, LEAST, MOST};
 
 const FACTOR: u32 = 1_664_525;
 
 const SUMMAND: u32 = 1_013_904_223;
 
-const LENGTHS: u32 = 901;
+const LENGTHS: u32 = MOST - LEAST + 1;
 
 // The seed that follows, in 32 bits.
 fn next_seed(seed: u32) -> u32

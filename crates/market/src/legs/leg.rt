@@ -25,7 +25,8 @@ pub struct LegTick {
     pub quote: LegQuote,
 }
 
-// A leg with the quote that it took last.
+// A leg with the quote that it took last. That both are in order is the invariant of `Legs`, and stands in clauses where a leg
+// is alone: the definitions build this record, which they could not with an invariant in it.
 #[derive(Clone, Copy)]
 pub struct Leg {
     pub side: Side,

@@ -1,4 +1,5 @@
-// What legs come to: the sums of ratio × price that a strategy shows.
+// What legs come to: the sums of ratio × price that a strategy shows. How far each part goes stands in clauses: a type for it
+// would have a bound for every number of parts.
 ghost use Rattle.std.specs.Prelude.{◌≡◌, ◌≤◌, true, List, pos, ◌*ℤ◌, Some};
 ghost use Rattle.market.specs.LegInvariant.{leg_ok, optional_leg_ok, leg_price_ok};
 ghost use Rattle.market.specs.LegSteps.{sum_with};

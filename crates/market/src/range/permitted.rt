@@ -43,8 +43,8 @@ fn turn_quote(side: Side, quote: Quote) -> TurnedQuote
     }
 }
 
-// Side and limit are handed on one beside the other, as the public call takes them: all that a range needs of an order, and no
-// more than two values.
+// Side and limit are handed on side by side, as the public call takes them: a struct of the two would be made by that call and
+// taken apart in the next.
 //
 // The range between a floor and the lower of a limit and a contra price, all of them turned.
 fn range_from(
