@@ -53,16 +53,16 @@ stores a x ok =
     let v = auction_values a.auction in
     let y = as_stored (open_values a) (response_given x) in
     let stands : response_ok v.order.size v.floor v.initiating y ≡ true =
-    both_true (from_to 1 16 y.member) _ x.member.in_limits (both_true (from_to 1 4 y.own) _ x.own.in_limits (may_stand a x.size x.price.cents ok.terms.not_above)) in
+    both_true (from_to 1 16 y.member) _ x.of.member.in_limits (both_true (from_to 1 4 y.own) _ x.of.own.in_limits (may_stand a x.size x.price.cents ok.terms.not_above)) in
     let may : may_store v y ≡ true = own_stored a.auction y stands (next_is_free a.arrivals v.stood a.arrived) ok.not_in_use in
     ap (λ (b : Bool). cond b (with_stood v (v.stood ++ y ∷ [])) v) may
 
 -- a change is made
 changes : (a : CurrentAuction) (x : CheckedChange) → ChangePasses (open_values a) (change_given x)
-    → changed (auction_values a.auction) x.member.number x.own.number (stored_size (open_values a) x.size.contracts) (stored_price (open_values a) x.price.cents) (a.arrivals + 1) ≡ (with_change (open_values a) (change_given x)).values
+    → changed (auction_values a.auction) x.of.member.number x.of.own.number (stored_size (open_values a) x.size.contracts) (stored_price (open_values a) x.price.cents) (a.arrivals + 1) ≡ (with_change (open_values a) (change_given x)).values
 changes a x ok =
     let v = auction_values a.auction in
-    own_rewritten v x.member.number x.own.number (stored_size (open_values a) x.size.contracts) (stored_price (open_values a) x.price.cents) (a.arrivals + 1)
+    own_rewritten v x.of.member.number x.of.own.number (stored_size (open_values a) x.size.contracts) (stored_price (open_values a) x.price.cents) (a.arrivals + 1)
     ok.stands (may_stand a x.size x.price.cents ok.terms.not_above) (next_is_free a.arrivals v.stood a.arrived)
 
 -- The open auction with other values.
@@ -78,22 +78,22 @@ changed_same v v' m o n n' z z' k k' a b c d i = changed (a i) m o (b i) (c i) (
 
 -- what was counted is stored, or changed
 module _ (a b : CurrentAuction) (size arrival : ℕ) (price : ℤ) (after : AuctionValues) where
-  pub counted_stores : (x : CheckedResponse) → ResponsePasses (open_values a) (response_given x) → open_values b ≡ with_counted (open_values a) x.member.number (auction_values a.auction).stood
+  pub counted_stores : (x : CheckedResponse) → ResponsePasses (open_values a) (response_given x) → open_values b ≡ with_counted (open_values a) x.of.member.number (auction_values a.auction).stood
       → size ≡ stored_size (open_values a) x.size.contracts → price ≡ stored_price (open_values a) x.price.cents → arrival ≡ a.arrivals + 1
-      → after ≡ stored (auction_values b.auction) (record { member = x.member.number; own = x.own.number; kind = x.kind; class = x.class; size = size; price = price; arrival = arrival })
+      → after ≡ stored (auction_values b.auction) (record { member = x.of.member.number; own = x.of.own.number; kind = x.kind; class = x.class; size = size; price = price; arrival = arrival })
       → with_values (open_values b) after ≡ with_response (open_values a) (response_given x)
   counted_stores x ok count e f k is =
       ap (with_values (open_values b))
       (is ∙ stored_same _ _ (response_given x) size _ price _ arrival _ (ap (λ (o : OpenAuction). o.values) count) e f k ∙ stores a x ok)
       ∙ ap (λ (o : OpenAuction). with_values o (with_response (open_values a) (response_given x)).values) count
 
-  pub counted_changes : (x : CheckedChange) → ChangePasses (open_values a) (change_given x) → open_values b ≡ with_counted (open_values a) x.member.number (auction_values a.auction).stood
+  pub counted_changes : (x : CheckedChange) → ChangePasses (open_values a) (change_given x) → open_values b ≡ with_counted (open_values a) x.of.member.number (auction_values a.auction).stood
       → size ≡ stored_size (open_values a) x.size.contracts → price ≡ stored_price (open_values a) x.price.cents → arrival ≡ a.arrivals + 1
-      → after ≡ changed (auction_values b.auction) x.member.number x.own.number size price arrival
+      → after ≡ changed (auction_values b.auction) x.of.member.number x.of.own.number size price arrival
       → with_values (open_values b) after ≡ with_change (open_values a) (change_given x)
   counted_changes x ok count e f k is =
       ap (with_values (open_values b))
-      (is ∙ changed_same _ _ x.member.number x.own.number size _ price _ arrival _ (ap (λ (o : OpenAuction). o.values) count) e f k ∙ changes a x ok)
+      (is ∙ changed_same _ _ x.of.member.number x.of.own.number size _ price _ arrival _ (ap (λ (o : OpenAuction). o.values) count) e f k ∙ changes a x ok)
       ∙ ap (λ (o : OpenAuction). with_values o (with_change (open_values a) (change_given x)).values) count
 
 -- and all that then stand have arrived

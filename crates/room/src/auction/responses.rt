@@ -45,14 +45,10 @@ impl CurrentAuction {
         if self.is_above(response.price) {
             return Err(Refusal::AboveInitiating);
         }
-        if self
-            .auction
-            .response_of(response.member.response(response.own))
-            .is_some()
-        {
+        if self.auction.response_of(response.of.id()).is_some() {
             return Err(Refusal::OwnNumberInUse);
         }
-        if self.used_by(response.member) >= MOST_USED {
+        if self.used_by(response.of.member) >= MOST_USED {
             return Err(Refusal::ResponsesUsedUp);
         }
         Ok(())
@@ -72,7 +68,7 @@ impl CurrentAuction {
         if self.is_above(change.price) {
             return Err(Refusal::AboveInitiating);
         }
-        if self.used_by(change.member) >= MOST_USED {
+        if self.used_by(change.of.member) >= MOST_USED {
             return Err(Refusal::ResponsesUsedUp);
         }
         Ok(())

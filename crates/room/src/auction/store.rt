@@ -63,10 +63,10 @@ impl CurrentAuction {
         let price = self.stored_price(response.price);
         let size = self.stored_size(response.size);
         let told = self.told(price, size);
-        let arrival = self.count(response.member);
+        let arrival = self.count(response.of.member);
         let _ = self.auction.store(Response {
-            member: response.member.number,
-            own: response.own.number,
+            member: response.of.member.number,
+            own: response.of.own.number,
             kind: response.kind,
             class: response.class,
             size,
@@ -85,9 +85,9 @@ impl CurrentAuction {
         let price = self.stored_price(change.price);
         let size = self.stored_size(change.size);
         let told = self.told(price, size);
-        let arrival = self.count(change.member);
+        let arrival = self.count(change.of.member);
         let _ = self.auction.change(
-            change.member.response(change.own),
+            change.of.id(),
             NewTerms {
                 size,
                 price,
@@ -103,14 +103,12 @@ impl CurrentAuction {
         withdrawal: &CheckedWithdrawal,
         standing: &Response,
     ) -> StoredTerms
-        requires { own_response withdrawal.now.member.number withdrawal.now.own.number (open_values self.old).values.stood ≡ Some standing.now }
+        requires { own_response withdrawal.now.of.member.number withdrawal.now.of.own.number (open_values self.old).values.stood ≡ Some standing.now }
         ensures after { open_values self.new ≡ with_withdrawal (open_values self.old) (withdrawal_given withdrawal.now) }
         ensures answer { result ≡ terms_told (open_values self.old) standing.now.price standing.now.size }
     {
         let told = self.told(standing.price, standing.size);
-        let _ = self
-            .auction
-            .withdraw(withdrawal.member.response(withdrawal.own));
+        let _ = self.auction.withdraw(withdrawal.of.id());
         told
     }
 }

@@ -50,7 +50,7 @@ impl<M: Market, R: Ranking, S: IntervalSource> Room<M, R, S> {
         };
         let standing = open
             .auction
-            .response_of(change.member.response(change.own))
+            .response_of(change.of.id())
             .ok_or_else(|| Refusal::NoSuchResponse)?;
         open.check_change(&standing, &change)?;
         Ok(open.change(&change))
@@ -69,7 +69,7 @@ impl<M: Market, R: Ranking, S: IntervalSource> Room<M, R, S> {
         };
         let standing = open
             .auction
-            .response_of(withdrawal.member.response(withdrawal.own))
+            .response_of(withdrawal.of.id())
             .ok_or_else(|| Refusal::NoSuchResponse)?;
         if standing.kind == Kind::Plain {
             return Err(Refusal::ResponseIsPlain);

@@ -15,7 +15,7 @@ invariant_of-self-clause-arrived c =
     let fits : SFits w64 c.stored_price-price.result = search rules in
     let price = to_z-of_z w64 c.stored_price-price.result fits ∙ c.stored_price-price.ensures in
     let is = c.change.ensures.after
-    ∙ ap (λ (of : ResponseId). changed (auction_values c.count-arrival.new.self.auction) of.member of.own c.stored_size-size.result (to_z w64 (of_z w64 c.stored_price-price.result)) c.count-arrival.result) c.response.ensures in
+    ∙ ap (λ (of : ResponseId). changed (auction_values c.count-arrival.new.self.auction) of.member of.own c.stored_size-size.result (to_z w64 (of_z w64 c.stored_price-price.result)) c.count-arrival.result) c.id.ensures in
     let after = counted_changes a c.count-arrival.new.self c.stored_size-size.result c.count-arrival.result _ (auction_values c.change.new.self) x c.requires c.count-arrival.ensures.counted c.stored_size-size.ensures price c.count-arrival.ensures.arrival is in
     ap (λ (o : OpenAuction). all_arrived o.arrivals o.values.stood) after ∙ change_arrived a (change_given x)
 
@@ -26,5 +26,5 @@ returns-clause-after c =
     let fits : SFits w64 c.stored_price-price.result = search rules in
     let price = to_z-of_z w64 c.stored_price-price.result fits ∙ c.stored_price-price.ensures in
     let is = c.change.ensures.after
-    ∙ ap (λ (of : ResponseId). changed (auction_values c.count-arrival.new.self.auction) of.member of.own c.stored_size-size.result (to_z w64 (of_z w64 c.stored_price-price.result)) c.count-arrival.result) c.response.ensures in
+    ∙ ap (λ (of : ResponseId). changed (auction_values c.count-arrival.new.self.auction) of.member of.own c.stored_size-size.result (to_z w64 (of_z w64 c.stored_price-price.result)) c.count-arrival.result) c.id.ensures in
     counted_changes a c.count-arrival.new.self c.stored_size-size.result c.count-arrival.result _ (auction_values c.change.new.self) x c.requires c.count-arrival.ensures.counted c.stored_size-size.ensures price c.count-arrival.ensures.arrival is
