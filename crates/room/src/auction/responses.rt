@@ -1,13 +1,14 @@
 // What the open auction does with responses, changes and withdrawals that have passed their checks.
 ghost use Rattle.std.specs.Prelude.{◌≡◌, int_lt};
 ghost use Rattle.std.specs.Result.{result_err};
+ghost use Rattle.allocation.specs.Table.{own_response};
 ghost use Rattle.room.specs.HandedIn.{response_given, change_given};
-ghost use Rattle.room.specs.Responses.{turned_in, response_refusal, change_refusal, plain_below_floor};
+ghost use Rattle.room.specs.Responses.{turned_in, standing_now, response_refusal, change_refusal, plain_below_floor};
 ghost use Rattle.room.specs.Rooms.{open_values};
 ghost use Rattle.room.specs.State.{used_by};
 
 use super::CurrentAuction;
-use crate::handed_in::{CheckedChange, CheckedResponse};
+use crate::handed_in::{CheckedChange, CheckedId, CheckedResponse};
 use crate::limits::{Member, Price};
 use crate::refusal::Refusal;
 use allocation::response::{Kind, Response};
@@ -33,6 +34,16 @@ impl CurrentAuction {
         ensures { result ≡ int_lt (open_values self.now).values.initiating (turned_in (open_values self.now) price.cents) }
     {
         self.auction.initiating() < self.turned(price)
+    }
+
+    // The response of this member with this own number, if it stands: 25 otherwise.
+    pub(crate) fn standing<F>(&self, of: CheckedId) -> Result<Response, Refusal<F>>
+        ensures { result ≡ standing_now (own_response of.member.number of.own.number (open_values self.now).values.stood) }
+    {
+        // No `ok_or`, which would have to drop a refusal, and so a market's fault.
+        self.auction
+            .response_of(of.id())
+            .ok_or_else(|| Refusal::NoSuchResponse)
     }
 
     // The first refusal that a response earns by the state: 22, 23, 24, 27.
