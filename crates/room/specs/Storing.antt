@@ -1,5 +1,5 @@
--- How a price and a size are stored, and what a request whose parts are within their limits has passed by the state of the open auction when it is carried out
--- there.
+-- How a price and a size are stored, and what a request whose parts are within their limits has passed by the state of the
+-- open auction when it is carried out there.
 use Rattle.std.specs.Prelude.{◌≡◌, ℕ, ◌+◌, true, false, ℤ, is_some, int_lt, nat_le}
 use Rattle.allocation.specs.declared.response.NewTerms.{NewTerms}
 use Rattle.allocation.specs.Table.{own_response}

@@ -1,6 +1,5 @@
 // What is handed in, once it is known to be within its limits: each of these is made by its check alone. They are no one type
-// with bounds as const parameters: their numbers are of four types (u64, i64, u32, u8), and each has
-// a refusal of its own.
+// with bounds as const parameters: their numbers are of four types (u64, i64, u32, u8), and each has a refusal of its own.
 ghost use Rattle.std.specs.Prelude.{◌≡◌, ◌-◌, ◌<◌, ◌≤◌, true, Ok, Some, None as Nothing};
 ghost use Rattle.allocation.specs.AuctionInvariant.{from_to};
 ghost use Rattle.market.specs.Prices.{in_limits};

@@ -36,7 +36,7 @@ impl CurrentAuction {
         self.auction.initiating() < self.turned(price)
     }
 
-    // The response of this member with this own number, if it stands: 25 otherwise.
+    // The response of this member with this own number, if it stands, or refusal 25.
     pub(crate) fn standing<F>(&self, of: CheckedId) -> Result<Response, Refusal<F>>
         ensures { result ≡ standing_now (own_response of.member.number of.own.number (open_values self.now).values.stood) }
     {
