@@ -10,6 +10,7 @@ use Rattle.allocation.proofs.FillProved.{Terms, terms_hold}
 use Rattle.allocation.specs.declared.auction.Auction.{Auction}
 use Rattle.allocation.specs.declared.order.GuaranteeKind.{GuaranteeKind}
 use Rattle.allocation.specs.declared.order.GuaranteeKind.TheVariants.{SingleStop, AutoMatchLimit}
+use Rattle.allocation.specs.declared.response.NewTerms.{NewTerms}
 use Rattle.allocation.specs.declared.response.Response.{Response}
 use Rattle.allocation.specs.Auction.{AuctionValues, auction_values, with_stood, may_store, stored, changed, may_move_floor}
 use Rattle.allocation.specs.AuctionInvariant.{from_to, range_ok, guarantee_ok, stop_ok, terms_ok, stored_ok, response_ok, each}
@@ -24,7 +25,7 @@ use Rattle.room.specs.declared.handed_in.CheckedChange.{CheckedChange}
 use Rattle.room.specs.declared.handed_in.CheckedResponse.{CheckedResponse}
 use Rattle.room.specs.declared.limits.Size.{Size}
 use Rattle.room.specs.HandedIn.{response_given, change_given}
-use Rattle.room.specs.Storing.{ResponsePasses, ChangePasses}
+use Rattle.room.specs.Storing.{next_terms, ResponsePasses, ChangePasses}
 use Rattle.room.specs.Ticks.{above_stop, tick_cause}
 use Rattle.room.specs.Counts.{all_arrived}
 use Rattle.room.proofs.Counting.{next_is_free, arrived_next}
@@ -53,16 +54,16 @@ stores a x ok =
     let v = auction_values a.auction in
     let y = as_stored (open_values a) (response_given x) in
     let stands : response_ok v.order.size v.floor v.initiating y ≡ true =
-    both_true (from_to 1 16 y.member) _ x.member.in_limits (both_true (from_to 1 4 y.own) _ x.own.in_limits (may_stand a x.size x.price.cents ok.terms.not_above)) in
+    both_true (from_to 1 16 y.member) _ x.of.member.in_limits (both_true (from_to 1 4 y.own) _ x.of.own.in_limits (may_stand a x.size x.price.cents ok.terms.not_above)) in
     let may : may_store v y ≡ true = own_stored a.auction y stands (next_is_free a.arrivals v.stood a.arrived) ok.not_in_use in
     ap (λ (b : Bool). cond b (with_stood v (v.stood ++ y ∷ [])) v) may
 
 -- a change is made
 changes : (a : CurrentAuction) (x : CheckedChange) → ChangePasses (open_values a) (change_given x)
-    → changed (auction_values a.auction) x.member.number x.own.number (stored_size (open_values a) x.size.contracts) (stored_price (open_values a) x.price.cents) (a.arrivals + 1) ≡ (with_change (open_values a) (change_given x)).values
+    → changed (auction_values a.auction) x.of.member.number x.of.own.number (stored_size (open_values a) x.size.contracts) (stored_price (open_values a) x.price.cents) (a.arrivals + 1) ≡ (with_change (open_values a) (change_given x)).values
 changes a x ok =
     let v = auction_values a.auction in
-    own_rewritten v x.member.number x.own.number (stored_size (open_values a) x.size.contracts) (stored_price (open_values a) x.price.cents) (a.arrivals + 1)
+    own_rewritten v x.of.member.number x.of.own.number (stored_size (open_values a) x.size.contracts) (stored_price (open_values a) x.price.cents) (a.arrivals + 1)
     ok.stands (may_stand a x.size x.price.cents ok.terms.not_above) (next_is_free a.arrivals v.stood a.arrived)
 
 -- The open auction with other values.
@@ -73,27 +74,27 @@ stored_same : (v v' : AuctionValues) (x : ResponseRequest) (n n' : ℕ) (z z' : 
     → stored v (record { member = x.member; own = x.own; kind = x.kind; class = x.class; size = n; price = z; arrival = k }) ≡ stored v' (record { member = x.member; own = x.own; kind = x.kind; class = x.class; size = n'; price = z'; arrival = k' })
 stored_same v v' x n n' z z' k k' a b c d i = stored (a i) (record { member = x.member; own = x.own; kind = x.kind; class = x.class; size = b i; price = c i; arrival = d i })
 
-changed_same : (v v' : AuctionValues) (m o n n' : ℕ) (z z' : ℤ) (k k' : ℕ) → v ≡ v' → n ≡ n' → z ≡ z' → k ≡ k' → changed v m o n z k ≡ changed v' m o n' z' k'
-changed_same v v' m o n n' z z' k k' a b c d i = changed (a i) m o (b i) (c i) (d i)
+changed_same : (v v' : AuctionValues) (m o : ℕ) (to to' : NewTerms) → v ≡ v' → to ≡ to' → changed v m o to.size to.price to.arrival ≡ changed v' m o to'.size to'.price to'.arrival
+changed_same v v' m o to to' a e i = changed (a i) m o (e i).size (e i).price (e i).arrival
 
 -- what was counted is stored, or changed
-module _ (a b : CurrentAuction) (size arrival : ℕ) (price : ℤ) (after : AuctionValues) where
-  pub counted_stores : (x : CheckedResponse) → ResponsePasses (open_values a) (response_given x) → open_values b ≡ with_counted (open_values a) x.member.number (auction_values a.auction).stood
-      → size ≡ stored_size (open_values a) x.size.contracts → price ≡ stored_price (open_values a) x.price.cents → arrival ≡ a.arrivals + 1
-      → after ≡ stored (auction_values b.auction) (record { member = x.member.number; own = x.own.number; kind = x.kind; class = x.class; size = size; price = price; arrival = arrival })
+module _ (a b : CurrentAuction) (to : NewTerms) (after : AuctionValues) where
+  pub counted_stores : (x : CheckedResponse) (price : ℤ) → ResponsePasses (open_values a) (response_given x) → open_values b ≡ with_counted (open_values a) x.of.member.number (auction_values a.auction).stood
+      → to ≡ next_terms (open_values a) x.price.cents x.size.contracts → price ≡ to.price
+      → after ≡ stored (auction_values b.auction) (record { member = x.of.member.number; own = x.of.own.number; kind = x.kind; class = x.class; size = to.size; price = price; arrival = to.arrival })
       → with_values (open_values b) after ≡ with_response (open_values a) (response_given x)
-  counted_stores x ok count e f k is =
+  counted_stores x price ok count e p is =
       ap (with_values (open_values b))
-      (is ∙ stored_same _ _ (response_given x) size _ price _ arrival _ (ap (λ (o : OpenAuction). o.values) count) e f k ∙ stores a x ok)
+      (is ∙ stored_same _ _ (response_given x) to.size _ price _ to.arrival _ (ap (λ (o : OpenAuction). o.values) count) (ap (λ (t : NewTerms). t.size) e) (p ∙ ap (λ (t : NewTerms). t.price) e) (ap (λ (t : NewTerms). t.arrival) e) ∙ stores a x ok)
       ∙ ap (λ (o : OpenAuction). with_values o (with_response (open_values a) (response_given x)).values) count
 
-  pub counted_changes : (x : CheckedChange) → ChangePasses (open_values a) (change_given x) → open_values b ≡ with_counted (open_values a) x.member.number (auction_values a.auction).stood
-      → size ≡ stored_size (open_values a) x.size.contracts → price ≡ stored_price (open_values a) x.price.cents → arrival ≡ a.arrivals + 1
-      → after ≡ changed (auction_values b.auction) x.member.number x.own.number size price arrival
+  pub counted_changes : (x : CheckedChange) → ChangePasses (open_values a) (change_given x) → open_values b ≡ with_counted (open_values a) x.of.member.number (auction_values a.auction).stood
+      → to ≡ next_terms (open_values a) x.price.cents x.size.contracts
+      → after ≡ changed (auction_values b.auction) x.of.member.number x.of.own.number to.size to.price to.arrival
       → with_values (open_values b) after ≡ with_change (open_values a) (change_given x)
-  counted_changes x ok count e f k is =
+  counted_changes x ok count e is =
       ap (with_values (open_values b))
-      (is ∙ changed_same _ _ x.member.number x.own.number size _ price _ arrival _ (ap (λ (o : OpenAuction). o.values) count) e f k ∙ changes a x ok)
+      (is ∙ changed_same _ _ x.of.member.number x.of.own.number to _ (ap (λ (o : OpenAuction). o.values) count) e ∙ changes a x ok)
       ∙ ap (λ (o : OpenAuction). with_values o (with_change (open_values a) (change_given x)).values) count
 
 -- and all that then stand have arrived

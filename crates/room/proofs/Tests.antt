@@ -1,6 +1,6 @@
 -- Small facts on tests and refusals: what follows from a test that did not refuse.
 use Rattle.std.proofs.Common.{◌≡◌, ℕ, Bool, true, false, cond, ◌&&◌, ◌||◌, Some, None, Ok, Err, Option, Result, sym, refl}
-use Rattle.std.proofs.lemmas.Bool.{true≢false, and_from, and_parts, and_left, and_right, or_parts}
+use Rattle.std.proofs.lemmas.Bool.{true≢false, and_from, and_parts, or_parts}
 use Rattle.room.specs.declared.refusal.Refusal.{Refusal}
 use Rattle.room.specs.Refusals.{refuse, unless, and_then}
 
@@ -21,12 +21,6 @@ left_true a b h = (and_parts a b h).0
 
 pub right_true : (a b : Bool) → (a && b) ≡ true → b ≡ true
 right_true a b h = (and_parts a b h).1
-
-pub and_false_left : (a b : Bool) → a ≡ false → (a && b) ≡ false
-and_false_left = and_left
-
-pub and_false_right : (a b : Bool) → b ≡ false → (a && b) ≡ false
-and_false_right = and_right
 
 pub or_false_left : (a b : Bool) → (a || b) ≡ false → a ≡ false
 or_false_left a b h = (or_parts a b h).0

@@ -1,6 +1,8 @@
 -- What was checked, as it was handed in: the same numbers, without their limits.
 use Rattle.allocation.specs.declared.order.PairedOrder.{PairedOrder}
+use Rattle.allocation.specs.declared.response.ResponseId.{ResponseId}
 use Rattle.room.specs.declared.handed_in.CheckedChange.{CheckedChange}
+use Rattle.room.specs.declared.handed_in.CheckedId.{CheckedId}
 use Rattle.room.specs.declared.handed_in.CheckedOpening.{CheckedOpening}
 use Rattle.room.specs.declared.handed_in.CheckedOrder.{CheckedOrder}
 use Rattle.room.specs.declared.handed_in.CheckedResponse.{CheckedResponse}
@@ -19,16 +21,20 @@ order_given o =
 abbrev pub opening_given : CheckedOpening → OpeningRequest
 opening_given x = record { time = x.time.milliseconds; member = x.member.number; order = order_given x.order }
 
+-- Which response of which member.
+abbrev pub id_given : CheckedId → ResponseId
+id_given x = record { member = x.member.number; own = x.own.number }
+
 -- A response.
 abbrev pub response_given : CheckedResponse → ResponseRequest
 response_given x =
-    record { time = x.time.milliseconds; member = x.member.number; own = x.own.number; side = x.side; kind = x.kind; class = x.class; size = x.size.contracts; price = x.price.cents }
+    record { time = x.time.milliseconds; member = x.of.member.number; own = x.of.own.number; side = x.side; kind = x.kind; class = x.class; size = x.size.contracts; price = x.price.cents }
 
 -- A change.
 abbrev pub change_given : CheckedChange → ChangeRequest
 change_given x =
-    record { time = x.time.milliseconds; member = x.member.number; own = x.own.number; size = x.size.contracts; price = x.price.cents }
+    record { time = x.time.milliseconds; member = x.of.member.number; own = x.of.own.number; size = x.size.contracts; price = x.price.cents }
 
 -- A withdrawal.
 abbrev pub withdrawal_given : CheckedWithdrawal → WithdrawRequest
-withdrawal_given x = record { time = x.time.milliseconds; member = x.member.number; own = x.own.number }
+withdrawal_given x = record { time = x.time.milliseconds; member = x.of.member.number; own = x.of.own.number }

@@ -1,15 +1,15 @@
 // What members hand in, with every part within its limits. In each of these the parts are checked in the order in which
 // they are listed, and the first that fails is told.
-ghost use Rattle.std.specs.Prelude.{◌≡◌, Ok};
-ghost use Rattle.room.specs.HandedIn.{opening_given, response_given, change_given, withdrawal_given};
-ghost use Rattle.room.specs.Checks.{open_checks, respond_checks, change_checks, withdraw_checks};
+ghost use Rattle.std.specs.Prelude.{◌≡◌, Ok, None as Nothing};
+ghost use Rattle.room.specs.HandedIn.{opening_given, id_given, response_given, change_given, withdrawal_given};
+ghost use Rattle.room.specs.Checks.{open_checks, respond_checks, change_checks, withdraw_checks, member_checked, own_checked};
 ghost use Rattle.room.specs.Refusals.{seen_as, unless};
 
 use crate::limits::{Member, OwnNumber, Price, Size, Time};
 use crate::refusal::Refusal;
 use crate::requests::{ChangeRequest, OpeningRequest, ResponseRequest, WithdrawRequest};
 use allocation::order::GuaranteeKind;
-use allocation::response::{Class, Kind};
+use allocation::response::{Class, Kind, ResponseId};
 use market::side::Side;
 
 #[derive(Clone, Copy)]
@@ -33,13 +33,19 @@ pub(crate) struct CheckedOpening {
     pub(crate) member: Member,
 }
 
+// A member, and its own number of one of its responses.
+#[derive(Clone, Copy)]
+pub(crate) struct CheckedId {
+    pub(crate) member: Member,
+    pub(crate) own: OwnNumber,
+}
+
 #[derive(Clone, Copy)]
 pub(crate) struct CheckedResponse {
     pub(crate) time: Time,
     pub(crate) price: Price,
     pub(crate) size: Size,
-    pub(crate) member: Member,
-    pub(crate) own: OwnNumber,
+    pub(crate) of: CheckedId,
     pub(crate) side: Side,
     pub(crate) kind: Kind,
     pub(crate) class: Class,
@@ -50,15 +56,13 @@ pub(crate) struct CheckedChange {
     pub(crate) time: Time,
     pub(crate) price: Price,
     pub(crate) size: Size,
-    pub(crate) member: Member,
-    pub(crate) own: OwnNumber,
+    pub(crate) of: CheckedId,
 }
 
 #[derive(Clone, Copy)]
 pub(crate) struct CheckedWithdrawal {
     pub(crate) time: Time,
-    pub(crate) member: Member,
-    pub(crate) own: OwnNumber,
+    pub(crate) of: CheckedId,
 }
 
 impl OpeningRequest {
@@ -81,6 +85,27 @@ impl OpeningRequest {
     }
 }
 
+impl CheckedId {
+    fn checked<F>(member: u8, own: u8) -> Result<CheckedId, Refusal<F>>
+        ensures { seen_as result id_given ≡ unless (member_checked member (own_checked own Nothing)) (Ok (record { member = member; own = own })) }
+    {
+        Ok(CheckedId {
+            member: Member::checked(member)?,
+            own: OwnNumber::checked(own)?,
+        })
+    }
+
+    // Which response of which member this is.
+    pub(crate) fn id(self) -> ResponseId
+        ensures { result ≡ record { member = self.member.number; own = self.own.number } }
+    {
+        ResponseId {
+            member: self.member.number,
+            own: self.own.number,
+        }
+    }
+}
+
 // A response has five checks in common with a change. Each makes them of its own request: the two are records of their own that
 // members hand in, and sharing the checks would first copy five fields from one into the other.
 impl ResponseRequest {
@@ -91,8 +116,7 @@ impl ResponseRequest {
             time: Time::checked(self.time)?,
             price: Price::checked(self.price)?,
             size: Size::checked(self.size)?,
-            member: Member::checked(self.member)?,
-            own: OwnNumber::checked(self.own)?,
+            of: CheckedId::checked(self.member, self.own)?,
             side: self.side,
             kind: self.kind,
             class: self.class,
@@ -108,8 +132,7 @@ impl ChangeRequest {
             time: Time::checked(self.time)?,
             price: Price::checked(self.price)?,
             size: Size::checked(self.size)?,
-            member: Member::checked(self.member)?,
-            own: OwnNumber::checked(self.own)?,
+            of: CheckedId::checked(self.member, self.own)?,
         })
     }
 }
@@ -120,8 +143,7 @@ impl WithdrawRequest {
     {
         Ok(CheckedWithdrawal {
             time: Time::checked(self.time)?,
-            member: Member::checked(self.member)?,
-            own: OwnNumber::checked(self.own)?,
+            of: CheckedId::checked(self.member, self.own)?,
         })
     }
 }

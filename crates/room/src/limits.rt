@@ -1,5 +1,5 @@
 // What is handed in, once it is known to be within its limits: each of these is made by its check alone. They are no one type
-// with bounds as const parameters: their numbers are of four widths, and each has a refusal of its own.
+// with bounds as const parameters: their numbers are of four types (u64, i64, u32, u8), and each has a refusal of its own.
 ghost use Rattle.std.specs.Prelude.{◌≡◌, ◌-◌, ◌<◌, ◌≤◌, true, Ok, Some, None as Nothing};
 ghost use Rattle.allocation.specs.AuctionInvariant.{from_to};
 ghost use Rattle.market.specs.Prices.{in_limits};
@@ -9,7 +9,6 @@ ghost use Rattle.room.specs.Refusals.{seen_as, unless};
 
 use crate::refusal::Refusal;
 use allocation::limits::{is_member, is_own_number, is_size};
-use allocation::response::ResponseId;
 use market::prices::in_limits;
 use market::side::Side;
 
@@ -101,16 +100,6 @@ impl Member {
         ensures within { result < 16 }
     {
         usize::from(self.number - 1)
-    }
-
-    // The response of this member with this own number.
-    pub(crate) fn response(self, own: OwnNumber) -> ResponseId
-        ensures { result ≡ record { member = self.number; own = own.number } }
-    {
-        ResponseId {
-            member: self.number,
-            own: own.number,
-        }
     }
 }
 

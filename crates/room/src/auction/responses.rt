@@ -1,13 +1,14 @@
 // What the open auction does with responses, changes and withdrawals that have passed their checks.
 ghost use Rattle.std.specs.Prelude.{◌≡◌, int_lt};
 ghost use Rattle.std.specs.Result.{result_err};
+ghost use Rattle.allocation.specs.Table.{own_response};
 ghost use Rattle.room.specs.HandedIn.{response_given, change_given};
-ghost use Rattle.room.specs.Responses.{turned_in, response_refusal, change_refusal, plain_below_floor};
+ghost use Rattle.room.specs.Responses.{turned_in, standing_now, response_refusal, change_refusal, plain_below_floor};
 ghost use Rattle.room.specs.Rooms.{open_values};
 ghost use Rattle.room.specs.State.{used_by};
 
 use super::CurrentAuction;
-use crate::handed_in::{CheckedChange, CheckedResponse};
+use crate::handed_in::{CheckedChange, CheckedId, CheckedResponse};
 use crate::limits::{Member, Price};
 use crate::refusal::Refusal;
 use allocation::response::{Kind, Response};
@@ -35,6 +36,16 @@ impl CurrentAuction {
         self.auction.initiating() < self.turned(price)
     }
 
+    // The response of this member with this own number, if it stands, or refusal 25.
+    pub(crate) fn standing<F>(&self, of: CheckedId) -> Result<Response, Refusal<F>>
+        ensures { result ≡ standing_now (own_response of.member.number of.own.number (open_values self.now).values.stood) }
+    {
+        // No `ok_or`, which would have to drop a refusal, and so a market's fault.
+        self.auction
+            .response_of(of.id())
+            .ok_or_else(|| Refusal::NoSuchResponse)
+    }
+
     // The first refusal that a response earns by the state: 22, 23, 24, 27.
     pub(crate) fn check_response<F>(&self, response: &CheckedResponse) -> Result<(), Refusal<F>>
         ensures { result_err result ≡ response_refusal (open_values self.now) (response_given response.now) }
@@ -45,14 +56,10 @@ impl CurrentAuction {
         if self.is_above(response.price) {
             return Err(Refusal::AboveInitiating);
         }
-        if self
-            .auction
-            .response_of(response.member.response(response.own))
-            .is_some()
-        {
+        if self.auction.response_of(response.of.id()).is_some() {
             return Err(Refusal::OwnNumberInUse);
         }
-        if self.used_by(response.member) >= MOST_USED {
+        if self.used_by(response.of.member) >= MOST_USED {
             return Err(Refusal::ResponsesUsedUp);
         }
         Ok(())
@@ -72,7 +79,7 @@ impl CurrentAuction {
         if self.is_above(change.price) {
             return Err(Refusal::AboveInitiating);
         }
-        if self.used_by(change.member) >= MOST_USED {
+        if self.used_by(change.of.member) >= MOST_USED {
             return Err(Refusal::ResponsesUsedUp);
         }
         Ok(())

@@ -6,7 +6,7 @@ ghost use Rattle.room.specs.HandedIn.{response_given, change_given, withdrawal_g
 ghost use Rattle.room.specs.Responses.{stored_price, stored_size, terms_told, with_counted, with_response, with_change, with_withdrawal};
 ghost use Rattle.room.specs.Rooms.{open_values};
 ghost use Rattle.room.specs.State.{used_by};
-ghost use Rattle.room.specs.Storing.{ResponsePasses, ChangePasses};
+ghost use Rattle.room.specs.Storing.{next_terms, TermsPass, ResponsePasses, ChangePasses};
 
 use super::CurrentAuction;
 use crate::answers::StoredTerms;
@@ -54,24 +54,40 @@ impl CurrentAuction {
         self.arrivals
     }
 
+    // The terms of one more response or change of this member, which is counted: as they are told, and as they are stored.
+    fn next_terms(&mut self, member: Member, price: Price, size: Size) -> (StoredTerms, NewTerms)
+        requires { TermsPass (open_values self.old) member.number price.cents }
+        ensures counted { open_values self.new ≡ with_counted (open_values self.old) member.number (open_values self.old).values.stood }
+        ensures told { result.0 ≡ terms_told (open_values self.old) (stored_price (open_values self.old) price.cents) (stored_size (open_values self.old) size.contracts) }
+        ensures stored { result.1 ≡ next_terms (open_values self.old) price.cents size.contracts }
+    {
+        let price = self.stored_price(price);
+        let size = self.stored_size(size);
+        let told = self.told(price, size);
+        let arrival = self.count(member);
+        let terms = NewTerms {
+            size,
+            price,
+            arrival,
+        };
+        (told, terms)
+    }
+
     // Stores a response behind the others.
     pub(crate) fn store(&mut self, response: &CheckedResponse) -> StoredTerms
         requires { ResponsePasses (open_values self.old) (response_given response.now) }
         ensures after { open_values self.new ≡ with_response (open_values self.old) (response_given response.now) }
         ensures answer { result ≡ terms_told (open_values self.old) (stored_price (open_values self.old) response.now.price.cents) (stored_size (open_values self.old) response.now.size.contracts) }
     {
-        let price = self.stored_price(response.price);
-        let size = self.stored_size(response.size);
-        let told = self.told(price, size);
-        let arrival = self.count(response.member);
+        let (told, terms) = self.next_terms(response.of.member, response.price, response.size);
         let _ = self.auction.store(Response {
-            member: response.member.number,
-            own: response.own.number,
+            member: response.of.member.number,
+            own: response.of.own.number,
             kind: response.kind,
             class: response.class,
-            size,
-            price,
-            arrival,
+            size: terms.size,
+            price: terms.price,
+            arrival: terms.arrival,
         });
         told
     }
@@ -82,18 +98,8 @@ impl CurrentAuction {
         ensures after { open_values self.new ≡ with_change (open_values self.old) (change_given change.now) }
         ensures answer { result ≡ terms_told (open_values self.old) (stored_price (open_values self.old) change.now.price.cents) (stored_size (open_values self.old) change.now.size.contracts) }
     {
-        let price = self.stored_price(change.price);
-        let size = self.stored_size(change.size);
-        let told = self.told(price, size);
-        let arrival = self.count(change.member);
-        let _ = self.auction.change(
-            change.member.response(change.own),
-            NewTerms {
-                size,
-                price,
-                arrival,
-            },
-        );
+        let (told, terms) = self.next_terms(change.of.member, change.price, change.size);
+        let _ = self.auction.change(change.of.id(), terms);
         told
     }
 
@@ -103,14 +109,12 @@ impl CurrentAuction {
         withdrawal: &CheckedWithdrawal,
         standing: &Response,
     ) -> StoredTerms
-        requires { own_response withdrawal.now.member.number withdrawal.now.own.number (open_values self.old).values.stood ≡ Some standing.now }
+        requires { own_response withdrawal.now.of.member.number withdrawal.now.of.own.number (open_values self.old).values.stood ≡ Some standing.now }
         ensures after { open_values self.new ≡ with_withdrawal (open_values self.old) (withdrawal_given withdrawal.now) }
         ensures answer { result ≡ terms_told (open_values self.old) standing.now.price standing.now.size }
     {
         let told = self.told(standing.price, standing.size);
-        let _ = self
-            .auction
-            .withdraw(withdrawal.member.response(withdrawal.own));
+        let _ = self.auction.withdraw(withdrawal.of.id());
         told
     }
 }

@@ -36,7 +36,9 @@ impl<M: Market, R: Ranking, S: IntervalSource> Room<M, R, S> {
     fn is_due(&self) -> bool
         ensures { result ≡ due self.now.time (option_map open_values self.now.current) }
     {
-        self.current.is_some_and(|open| open.deadline <= self.time)
+        self.current
+            .as_ref()
+            .is_some_and(|open| open.deadline <= self.time)
     }
 
     // The room's time becomes the later of its own and the given one; then an auction whose deadline is reached ends.

@@ -27,7 +27,9 @@ impl<M: Market, R: Ranking, S: IntervalSource> Room<M, R, S> {
     fn is_open(&self, number: u32) -> bool
         ensures { result ≡ is_number number (option_map open_values self.now.current) }
     {
-        self.current.is_some_and(|open| open.number == number)
+        self.current
+            .as_ref()
+            .is_some_and(|open| open.number == number)
     }
 
     // The auction of a claim, or the first refusal.
@@ -53,10 +55,10 @@ impl<M: Market, R: Ranking, S: IntervalSource> Room<M, R, S> {
         ensures state { state_of M.Market.position S.IntervalSource.position self.new ≡ Rattle.room.specs.State.with_waiting (without_number number (listed self.old.first self.old.second)) (state_of M.Market.position S.IntervalSource.position self.old) }
         ensures ranking { self.new.ranking ≡ self.old.ranking }
     {
-        let has_it = |ended: WaitingAuction| ended.number == number;
-        if self.first.is_some_and(has_it) {
+        let has_it = |ended: &WaitingAuction| ended.number == number;
+        if self.first.as_ref().is_some_and(has_it) {
             self.first = self.second.take();
-        } else if self.second.is_some_and(has_it) {
+        } else if self.second.as_ref().is_some_and(has_it) {
             self.second = None;
         }
     }

@@ -25,7 +25,7 @@ impl<M: Market, R: Ranking, S: IntervalSource> Room<M, R, S> {
             time: self.time,
             halted: self.halted,
             waiting: self.waiting(),
-            auction: self.current.map(|open| open.view()),
+            auction: self.current.as_ref().map(|open| open.view()),
         }
     }
 }

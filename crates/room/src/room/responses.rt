@@ -1,7 +1,4 @@
-// Responding to the open auction, changing a response and withdrawing one. The open auction is lent by a `let .. else`: with
-// `as_mut().ok_or_else(..)?` four goals stayed open, since the check then loses what a refused call leaves.
-// The open auction is lent by a pattern: after `as_mut` and `?` the check no longer knows it where a call is refused.
-// No `ok_or`, which would have to drop a refusal, and so a market's fault.
+// Responding to the open auction, changing a response and withdrawing one.
 ghost use Rattle.std.specs.Prelude.{◌≡◌};
 ghost use Rattle.room.specs.Responses.{respond_call, change_call, withdraw_call};
 ghost use Rattle.room.specs.Rooms.{state_of};
@@ -25,6 +22,7 @@ impl<M: Market, R: Ranking, S: IntervalSource> Room<M, R, S> {
     {
         let response = request.checked()?;
         self.step_clock(response.time);
+        // With `as_mut().ok_or_else(..)?` goals stayed open: what a refused call leaves was lost.
         let Some(open) = &mut self.current else {
             return Err(Refusal::NoAuctionOpen);
         };
@@ -45,13 +43,11 @@ impl<M: Market, R: Ranking, S: IntervalSource> Room<M, R, S> {
     {
         let change = request.checked()?;
         self.step_clock(change.time);
+        // With `as_mut().ok_or_else(..)?` goals stayed open: what a refused call leaves was lost.
         let Some(open) = &mut self.current else {
             return Err(Refusal::NoAuctionOpen);
         };
-        let standing = open
-            .auction
-            .response_of(change.member.response(change.own))
-            .ok_or_else(|| Refusal::NoSuchResponse)?;
+        let standing = open.standing(change.of)?;
         open.check_change(&standing, &change)?;
         Ok(open.change(&change))
     }
@@ -64,13 +60,11 @@ impl<M: Market, R: Ranking, S: IntervalSource> Room<M, R, S> {
     {
         let withdrawal = request.checked()?;
         self.step_clock(withdrawal.time);
+        // With `as_mut().ok_or_else(..)?` goals stayed open: what a refused call leaves was lost.
         let Some(open) = &mut self.current else {
             return Err(Refusal::NoAuctionOpen);
         };
-        let standing = open
-            .auction
-            .response_of(withdrawal.member.response(withdrawal.own))
-            .ok_or_else(|| Refusal::NoSuchResponse)?;
+        let standing = open.standing(withdrawal.of)?;
         if standing.kind == Kind::Plain {
             return Err(Refusal::ResponseIsPlain);
         }

@@ -16,18 +16,18 @@ told-told-requires c =
     let x = c.args.withdrawal.now in
     let y = c.args.standing.now in
     let fits : SFits w64 y.price = search rules in
-    ap (λ (z : ℤ). showable (Some z)) (to_z-of_z w64 y.price fits) ∙ standing_shown c.args.self.now.auction x.member.number x.own.number y c.requires
+    ap (λ (z : ℤ). showable (Some z)) (to_z-of_z w64 y.price fits) ∙ standing_shown c.args.self.now.auction x.of.member.number x.of.own.number y c.requires
 
 pub invariant_of-self-clause-arrived : goal.invariant_of-self-clause-arrived
 invariant_of-self-clause-arrived c =
     let a = c.args.self.now in
     let x = c.args.withdrawal.now in
     let v = auction_values a.auction in
-    ap (λ (u : AuctionValues). all_arrived a.arrivals u.stood) (c.withdraw.ensures.after ∙ ap (λ (of : ResponseId). withdrawn v of.member of.own) c.response.ensures ∙ own_removed v x.member.number x.own.number)
-    ∙ each_without x.member.number x.own.number (λ (y : Response). leb y.arrival a.arrivals) v.stood a.arrived
+    ap (λ (u : AuctionValues). all_arrived a.arrivals u.stood) (c.withdraw.ensures.after ∙ ap (λ (of : ResponseId). withdrawn v of.member of.own) c.id.ensures ∙ own_removed v x.of.member.number x.of.own.number)
+    ∙ each_without x.of.member.number x.of.own.number (λ (y : Response). leb y.arrival a.arrivals) v.stood a.arrived
 
 pub returns-clause-after : goal.returns-clause-after
 returns-clause-after c =
     let a = c.args.self.now in
     let x = c.args.withdrawal.now in
-    ap (with_values (open_values a)) (c.withdraw.ensures.after ∙ ap (λ (of : ResponseId). withdrawn (auction_values a.auction) of.member of.own) c.response.ensures ∙ own_removed (auction_values a.auction) x.member.number x.own.number)
+    ap (with_values (open_values a)) (c.withdraw.ensures.after ∙ ap (λ (of : ResponseId). withdrawn (auction_values a.auction) of.member of.own) c.id.ensures ∙ own_removed (auction_values a.auction) x.of.member.number x.of.own.number)
