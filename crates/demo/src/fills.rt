@@ -1,6 +1,6 @@
 // Two auctions, each from its order and its responses to its fill list. Who gets what is what the library answers.
 use crate::levels::Shared;
-use crate::responses::{Responses, Told, customer, other};
+use crate::responses::{Responses, Told, response};
 use crate::steps::{show_range, show_refusal};
 use crate::table::show_table;
 use crate::text::Price;
@@ -9,6 +9,7 @@ use allocation::fill::{FillRow, LEAST_ROWS};
 use allocation::order::{Guarantee, GuaranteeKind, PairedOrder};
 use allocation::ranking::Ranking;
 use allocation::rankings::{EarlierArrival, LargerSize};
+use allocation::response::Class::{Customer, Other};
 use market::market::Market;
 use market::range::PermittedRange;
 use market::range::permitted::permitted_range;
@@ -129,11 +130,11 @@ fn buy<M: Market>(rt: &HostRuntime, market: &M) -> io::Result<()> {
         kind: GuaranteeKind::SingleStop,
         price: 300,
         told: &[
-            other(3, 50, 300),
-            other(4, 20, 300),
-            other(5, 25, 297),
-            customer(2, 30, 300),
-            other(6, 15, 302),
+            response(3, Other, 50, 300),
+            response(4, Other, 20, 300),
+            response(5, Other, 25, 297),
+            response(2, Customer, 30, 300),
+            response(6, Other, 15, 302),
         ],
         ranking: EarlierArrival,
     };
@@ -154,14 +155,14 @@ fn sell<M: Market>(rt: &HostRuntime, market: &M) -> io::Result<()> {
         kind: GuaranteeKind::AutoMatchLimit,
         price: 302,
         told: &[
-            other(2, 9, 300),
-            other(3, 17, 300),
-            other(4, 10, 302),
-            other(5, 21, 300),
-            customer(6, 10, 304),
-            customer(7, 5, 302),
-            other(8, 15, 304),
-            customer(9, 10, 300),
+            response(2, Other, 9, 300),
+            response(3, Other, 17, 300),
+            response(4, Other, 10, 302),
+            response(5, Other, 21, 300),
+            response(6, Customer, 10, 304),
+            response(7, Customer, 5, 302),
+            response(8, Other, 15, 304),
+            response(9, Customer, 10, 300),
         ],
         ranking: LargerSize,
     };

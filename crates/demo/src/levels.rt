@@ -193,14 +193,10 @@ impl Shared<'_> {
     // Each level of the fill list in turn, with R, what is left of the order.
     pub fn show_levels(&self, rt: &HostRuntime, size: u32) -> io::Result<()> {
         println!(rt; "  level by level, R being what is left of the order:")?;
-        let mut left = size;
-        for level in self
-            .rows
+        self.rows
             .chunk_by(|row, next| row.price == next.price)
             .filter_map(Level::of)
-        {
-            left = self.show_level(rt, &level, left)?;
-        }
-        Ok(())
+            .try_fold(size, |left, level| self.show_level(rt, &level, left))
+            .map(|_| ())
     }
 }

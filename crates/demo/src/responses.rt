@@ -29,19 +29,10 @@ impl Told {
     }
 }
 
-pub fn customer(member: u8, size: u32, price: i64) -> Told {
+pub fn response(member: u8, class: Class, size: u32, price: i64) -> Told {
     Told {
         member,
-        class: Class::Customer,
-        size,
-        price,
-    }
-}
-
-pub fn other(member: u8, size: u32, price: i64) -> Told {
-    Told {
-        member,
-        class: Class::Other,
+        class,
         size,
         price,
     }
@@ -55,15 +46,13 @@ pub struct Responses<'a> {
 }
 
 impl Responses<'_> {
-    // Whether all may stand; each is stored that may. The examples store theirs alike: the programs share only the
-    // layers, and a layer holds nothing that only programs call.
+    // Whether all may stand; each is stored, up to one that may not.
+    // The examples have one alike: no layer holds what only programs call, and neither program rests on the other.
     pub fn store_all(&self, auction: &mut Auction) -> bool {
         let side = self.side;
-        (1..=u32::MAX)
-            .zip(self.told)
-            .fold(true, |all, (arrival, response)| {
-                auction.store(response.stored(side, arrival)) && all
-            })
+        (1..=u32::MAX).zip(self.told).all(|(arrival, told)| {
+            auction.store(told.stored(side, arrival))
+        })
     }
 
     // By turned price, customers before others, by arrival.

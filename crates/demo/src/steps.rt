@@ -1,6 +1,6 @@
 // The narration, step by step. What it prints of markets and ranges is what the library answers.
 use crate::fills::auctions;
-use crate::text::{Price, bid, offer};
+use crate::text::{Price, Shown};
 use market::better_of::Half;
 use market::cube::{CubeMarket, CubeTick, cube_market};
 use market::fault::{Cause, Fault};
@@ -20,7 +20,11 @@ pub fn show_terms(rt: &HostRuntime, number: u32, terms: LegTerms) -> io::Result<
 }
 
 fn show(rt: &HostRuntime, what: &str, quote: Quote) -> io::Result<()> {
-    println!(rt; "  {what}: {}, {}", bid(quote), offer(quote))
+    println!(rt;
+        "  {what}: {}, {}",
+        Shown("bid", quote.bid),
+        Shown("offer", quote.offer)
+    )
 }
 
 // No Display of Cause: these are the narration's words, and the library knows a cause by its number alone.

@@ -21,7 +21,8 @@ fn show_row(rt: &HostRuntime, row: &FillRow) -> io::Result<()> {
     println!(rt; "{class:<8}  {filled:>6}  {left:>4}")
 }
 
-// The contracts that all these rows are filled. The examples add theirs alike: no layer holds what only programs call.
+// The contracts that all these rows are filled.
+// The examples have one alike: no layer holds what only programs call, and neither program rests on the other.
 pub fn filled_in(rows: &[FillRow]) -> u32 {
     rows.iter()
         .fold(0, |sum: u32, row| sum.saturating_add(row.filled))

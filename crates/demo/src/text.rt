@@ -1,5 +1,4 @@
 // Prices as the narration prints them.
-use market::quote::Quote;
 use std::fmt;
 
 // A price: cents, then dollars and cents, as in "-292 (-$2.92)".
@@ -17,32 +16,16 @@ impl fmt::Display for Price {
 }
 
 // One side of what is shown, with its name: a price, or none.
+// The examples have one alike: no layer holds what only programs call, and neither program rests on the other.
 #[derive(Clone, Copy)]
-pub struct Shown {
-    name: &'static str,
-    price: Option<i64>,
-}
+pub struct Shown(pub &'static str, pub Option<i64>);
 
 impl fmt::Display for Shown {
     fn fmt<W: fmt::Write>(&self, f: &mut fmt::Formatter<W>) -> fmt::Result {
-        let name = self.name;
-        match self.price.map(Price) {
+        let Shown(name, price) = *self;
+        match price.map(Price) {
             None => write!(f, "no {name}"),
             Some(price) => write!(f, "{name} {price}"),
         }
-    }
-}
-
-pub fn bid(quote: Quote) -> Shown {
-    Shown {
-        name: "bid",
-        price: quote.bid,
-    }
-}
-
-pub fn offer(quote: Quote) -> Shown {
-    Shown {
-        name: "offer",
-        price: quote.offer,
     }
 }

@@ -14,15 +14,19 @@ impl Answer for () {
     }
 }
 
+fn print_refusal(rt: &HostRuntime, number: u8) -> io::Result<()> {
+    print!(rt; "refusal {number}")
+}
+
 impl Answer for SetupRefusal {
     fn print(&self, rt: &HostRuntime) -> io::Result<()> {
-        print!(rt; "refusal {}", self.number())
+        print_refusal(rt, self.number())
     }
 }
 
 impl Answer for RangeRefusal {
     fn print(&self, rt: &HostRuntime) -> io::Result<()> {
-        print!(rt; "refusal {}", self.number())
+        print_refusal(rt, self.number())
     }
 }
 
@@ -56,29 +60,16 @@ pub fn print_answer<T: Answer + PartialEq>(rt: &HostRuntime, got: &T, want: &T) 
 }
 
 // One side of a quote, with its name: a price in cents, or none.
+// The demo has one alike: no layer holds what only programs call, and neither program rests on the other.
 #[derive(Clone, Copy)]
-pub struct Shown {
-    pub name: &'static str,
-    pub price: Option<i64>,
-}
+pub struct Shown(pub &'static str, pub Option<i64>);
 
 impl fmt::Display for Shown {
     fn fmt<W: fmt::Write>(&self, f: &mut fmt::Formatter<W>) -> fmt::Result {
-        let name = self.name;
-        match self.price {
+        let Shown(name, price) = *self;
+        match price {
             None => write!(f, "no {name}"),
             Some(cents) => write!(f, "{name} {cents}"),
         }
-    }
-}
-
-pub fn bid(price: Option<i64>) -> Shown {
-    Shown { name: "bid", price }
-}
-
-pub fn offer(price: Option<i64>) -> Shown {
-    Shown {
-        name: "offer",
-        price,
     }
 }

@@ -1,11 +1,12 @@
 // Orders with their responses, shared out under both rankings: who gets how many contracts at which price.
 use allocation::auction::Auction;
-use allocation::fill::FillRow;
+use allocation::fill::{FillRow, LEAST_ROWS};
 use allocation::order::{Guarantee, GuaranteeKind, PairedOrder};
 use allocation::ranking::Ranking;
 use allocation::rankings::{EarlierArrival, LargerSize};
-use allocation::response::{Class, Kind, NewTerms, Response, ResponseId};
-use market::side::Side;
+use allocation::response::Class::{self, Customer, Other};
+use allocation::response::{Kind, NewTerms, Response, ResponseId};
+use market::side::Side::{self, Buy, Sell};
 use std::io;
 
 fn order(side: Side, size: u32, kind: GuaranteeKind, price: i64) -> PairedOrder {
@@ -15,10 +16,6 @@ fn order(side: Side, size: u32, kind: GuaranteeKind, price: i64) -> PairedOrder 
         limit: 300,
         guarantee: Guarantee { kind, price },
     }
-}
-
-fn bought(size: u32, kind: GuaranteeKind, price: i64) -> PairedOrder {
-    order(Side::Buy, size, kind, price)
 }
 
 // The first response of a member, at a turned price; it gets its arrival number where it is stored.
@@ -34,24 +31,15 @@ fn first_of(member: u8, class: Class, size: u32, price: i64) -> Response {
     }
 }
 
-fn customer(member: u8, size: u32, price: i64) -> Response {
-    first_of(member, Class::Customer, size, price)
-}
-
-fn other(member: u8, size: u32, price: i64) -> Response {
-    first_of(member, Class::Other, size, price)
-}
-
-// Whether all may stand; each is stored that may, with its place among them, from 1, as its arrival number.
+// Whether all may stand; each is stored, up to one that may not. Its place among them, from 1, is its arrival number.
+// The demo has one alike: no layer holds what only programs call, and neither program rests on the other.
 fn store_all(auction: &mut Auction, told: &[Response]) -> bool {
-    (1..=u32::MAX)
-        .zip(told)
-        .fold(true, |all, (arrival, response)| {
-            auction.store(Response {
-                arrival,
-                ..*response
-            }) && all
+    (1..=u32::MAX).zip(told).all(|(arrival, response)| {
+        auction.store(Response {
+            arrival,
+            ..*response
         })
+    })
 }
 
 fn print_rows(rt: &HostRuntime, rows: &[FillRow]) -> io::Result<()> {
@@ -75,13 +63,19 @@ fn print_rows(rt: &HostRuntime, rows: &[FillRow]) -> io::Result<()> {
     Ok(())
 }
 
+// One row too few for every fill list.
+const ONE_LESS: usize = LEAST_ROWS - 1;
+
+// One row more than any fill list needs.
+const ONE_MORE: usize = LEAST_ROWS + 1;
+
 // The fill list, and that the row behind it is as it was.
 fn print_fills<R: Ranking>(rt: &HostRuntime, ranking: &R, auction: &Auction) -> io::Result<()> {
-    let mut rows = [FillRow::BLANK; 130];
-    rows[129].left = 77;
+    let mut rows = [FillRow::BLANK; ONE_MORE];
+    rows[LEAST_ROWS].left = 77;
     match auction.fill(ranking, &mut rows) {
         Ok(count) => {
-            let behind = rows[129].left;
+            let behind = rows[LEAST_ROWS].left;
             println!(rt; "  {count} rows, and the last place has {behind}")?;
             print_rows(rt, rows.get(..count).unwrap_or(&[]))
         }
@@ -92,8 +86,8 @@ fn print_fills<R: Ranking>(rt: &HostRuntime, ranking: &R, auction: &Auction) -> 
 // An auction of the order in the range of prices from 294 to 304, which for a sell order are turned.
 fn auction_of(order: PairedOrder) -> Option<Auction> {
     match order.side {
-        Side::Buy => Auction::new(order, 294, 304),
-        Side::Sell => Auction::new(order, -304, -294),
+        Buy => Auction::new(order, 294, 304),
+        Sell => Auction::new(order, -304, -294),
     }
 }
 
@@ -120,8 +114,12 @@ impl Case<'_> {
 fn at_stop(rt: &HostRuntime) -> io::Result<()> {
     let case = Case {
         title: "stop 300, at it a customer and two others: the contra has 40% of the order, and not of what is left",
-        order: bought(100, GuaranteeKind::SingleStop, 300),
-        told: &[customer(2, 30, 300), other(3, 50, 300), other(4, 20, 300)],
+        order: order(Buy, 100, GuaranteeKind::SingleStop, 300),
+        told: &[
+            first_of(2, Customer, 30, 300),
+            first_of(3, Other, 50, 300),
+            first_of(4, Other, 20, 300),
+        ],
     };
     case.work(rt, &EarlierArrival)
 }
@@ -129,8 +127,12 @@ fn at_stop(rt: &HostRuntime) -> io::Result<()> {
 fn odd_contracts(rt: &HostRuntime) -> io::Result<()> {
     let by_arrival = Case {
         title: "31 contracts among 10, 20 and 10, by arrival",
-        order: bought(31, GuaranteeKind::SingleStop, 300),
-        told: &[other(2, 10, 296), other(3, 20, 296), other(4, 10, 296)],
+        order: order(Buy, 31, GuaranteeKind::SingleStop, 300),
+        told: &[
+            first_of(2, Other, 10, 296),
+            first_of(3, Other, 20, 296),
+            first_of(4, Other, 10, 296),
+        ],
     };
     by_arrival.work(rt, &EarlierArrival)?;
     let by_size = Case {
@@ -143,21 +145,25 @@ fn odd_contracts(rt: &HostRuntime) -> io::Result<()> {
 fn beyond_stop(rt: &HostRuntime) -> io::Result<()> {
     let case = Case {
         title: "responses beyond the stop get nothing",
-        order: bought(100, GuaranteeKind::SingleStop, 300),
-        told: &[other(2, 30, 302), other(3, 60, 298), customer(4, 10, 301)],
+        order: order(Buy, 100, GuaranteeKind::SingleStop, 300),
+        told: &[
+            first_of(2, Other, 30, 302),
+            first_of(3, Other, 60, 298),
+            first_of(4, Customer, 10, 301),
+        ],
     };
     case.work(rt, &EarlierArrival)
 }
 
 fn one_firm(rt: &HostRuntime) -> io::Result<()> {
-    let first = other(2, 60, 298);
+    let first = first_of(2, Other, 60, 298);
     let second = Response {
         own: 2,
-        ..other(2, 10, 298)
+        ..first_of(2, Other, 10, 298)
     };
     let two = Case {
         title: "40%, and not 50%, with two responses of one firm",
-        order: bought(99, GuaranteeKind::SingleStop, 298),
+        order: order(Buy, 99, GuaranteeKind::SingleStop, 298),
         told: &[first, second],
     };
     two.work(rt, &EarlierArrival)?;
@@ -176,46 +182,37 @@ fn stops(rt: &HostRuntime) -> io::Result<()> {
     one_firm(rt)
 }
 
-fn matched(rt: &HostRuntime) -> io::Result<()> {
-    let case = Case {
-        title: "auto-match limit 298, customers and others",
-        order: bought(100, GuaranteeKind::AutoMatchLimit, 298),
-        told: &[
-            customer(2, 10, 298),
-            other(3, 20, 298),
-            other(4, 10, 301),
-            customer(5, 100, 304),
-        ],
-    };
-    case.work(rt, &EarlierArrival)
-}
-
-fn below_floor(rt: &HostRuntime) -> io::Result<()> {
-    let case = Case {
-        title: "auto-match limit 290, below a floor that has risen to 294: matched from the floor on",
-        order: bought(100, GuaranteeKind::AutoMatchLimit, 290),
-        told: &[other(2, 20, 295), other(3, 10, 301)],
-    };
-    case.work(rt, &EarlierArrival)
-}
-
-fn sold(rt: &HostRuntime) -> io::Result<()> {
-    let case = Case {
-        title: "a sell order: prices are not turned",
-        order: order(Side::Sell, 100, GuaranteeKind::SingleStop, -300),
-        told: &[
-            customer(2, 30, -300),
-            other(3, 50, -300),
-            other(4, 20, -302),
-        ],
-    };
-    case.work(rt, &EarlierArrival)
-}
-
 fn matches(rt: &HostRuntime) -> io::Result<()> {
-    matched(rt)?;
-    below_floor(rt)?;
-    sold(rt)
+    let cases = [
+        Case {
+            title: "auto-match limit 298, customers and others",
+            order: order(Buy, 100, GuaranteeKind::AutoMatchLimit, 298),
+            told: &[
+                first_of(2, Customer, 10, 298),
+                first_of(3, Other, 20, 298),
+                first_of(4, Other, 10, 301),
+                first_of(5, Customer, 100, 304),
+            ],
+        },
+        Case {
+            title: "auto-match limit 290, below a floor that has risen to 294: matched from the floor on",
+            order: order(Buy, 100, GuaranteeKind::AutoMatchLimit, 290),
+            told: &[first_of(2, Other, 20, 295), first_of(3, Other, 10, 301)],
+        },
+        Case {
+            title: "a sell order: prices are not turned",
+            order: order(Sell, 100, GuaranteeKind::SingleStop, -300),
+            told: &[
+                first_of(2, Customer, 30, -300),
+                first_of(3, Other, 50, -300),
+                first_of(4, Other, 20, -302),
+            ],
+        },
+    ];
+    for case in cases {
+        case.work(rt, &EarlierArrival)?;
+    }
+    Ok(())
 }
 
 fn edges(rt: &HostRuntime) -> io::Result<()> {
@@ -223,7 +220,7 @@ fn edges(rt: &HostRuntime) -> io::Result<()> {
         "no auction has a stop below its floor, a guarantee above the initiating price, or no size"
     )?;
     let has_none = |size, price| {
-        auction_of(bought(size, GuaranteeKind::SingleStop, price)).is_none()
+        auction_of(order(Buy, size, GuaranteeKind::SingleStop, price)).is_none()
     };
     let below = has_none(100, 293);
     let above = has_none(100, 305);
@@ -237,7 +234,7 @@ fn one_of_64(i: u8) -> Response {
         member: i / 4 + 1,
         own: i % 4 + 1,
         kind: Kind::Plain,
-        class: Class::Other,
+        class: Other,
         size: 1,
         price: 200 + i64::from(i),
         arrival: u32::from(i) + 1,
@@ -247,7 +244,7 @@ fn one_of_64(i: u8) -> Response {
 // 64 responses at 64 prices below the initiating price, each matched by the contra, which then cleans up.
 fn full_table() -> Option<Auction> {
     let mut auction = Auction::new(
-        bought(100_000, GuaranteeKind::AutoMatchLimit, 200),
+        order(Buy, 100_000, GuaranteeKind::AutoMatchLimit, 200),
         200,
         304,
     )?;
@@ -256,6 +253,8 @@ fn full_table() -> Option<Auction> {
         .then_some(auction)
 }
 
+// The contracts that all these rows are filled.
+// The demo has one alike: no layer holds what only programs call, and neither program rests on the other.
 fn added(rows: &[FillRow]) -> u32 {
     rows.iter()
         .fold(0, |sum: u32, row| sum.saturating_add(row.filled))
@@ -266,20 +265,20 @@ fn lengths(rt: &HostRuntime) -> io::Result<()> {
     let Some(auction) = full_table() else {
         return println!(rt; "  NOT ALL STORED");
     };
-    let mut short = [FillRow::BLANK; 128];
+    let mut short = [FillRow::BLANK; ONE_LESS];
     match auction.fill(&EarlierArrival, &mut short) {
         Ok(_) => println!(rt; "  ACCEPTED")?,
         Err(refusal) => {
             let number = refusal.number();
             let written = added(&short);
-            println!(rt; "  in 128 rows: refusal {number}, and {written} written")?;
+            println!(rt; "  in {ONE_LESS} rows: refusal {number}, and {written} written")?;
         }
     }
-    let mut rows = [FillRow::BLANK; 129];
+    let mut rows = [FillRow::BLANK; LEAST_ROWS];
     match auction.fill(&EarlierArrival, &mut rows) {
         Ok(count) => {
             let all = added(&rows);
-            println!(rt; "  in 129 rows: {count} rows, {all} contracts in all")
+            println!(rt; "  in {LEAST_ROWS} rows: {count} rows, {all} contracts in all")
         }
         Err(_) => println!(rt; "  REFUSED"),
     }
@@ -302,10 +301,10 @@ fn terms(size: u32, price: i64, arrival: u32) -> NewTerms {
 // stand is refused, and nothing changes.
 fn changes(rt: &HostRuntime) -> io::Result<()> {
     println!(rt; "30 contracts among 20, 20 and 20: one is changed, one withdrawn")?;
-    let Some(mut auction) = auction_of(bought(30, GuaranteeKind::SingleStop, 300)) else {
+    let Some(mut auction) = auction_of(order(Buy, 30, GuaranteeKind::SingleStop, 300)) else {
         return println!(rt; "  NO AUCTION HAS THESE TERMS");
     };
-    let three_alike = [2, 3, 4].map(|member| other(member, 20, 297));
+    let three_alike = [2, 3, 4].map(|member| first_of(member, Other, 20, 297));
     let stored = store_all(&mut auction, &three_alike);
     let changed = auction.change(id_of(2), terms(21, 297, 4));
     let missing = auction.change(id_of(5), terms(21, 297, 5));

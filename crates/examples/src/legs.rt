@@ -68,11 +68,9 @@ fn work_added(rt: &HostRuntime, legs: &mut Legs, side: Side) -> io::Result<()> {
     Ok(())
 }
 
-// Each of four legs is quoted so, also where an earlier one is refused.
+// Whether four legs are quoted so; each is, up to one that is refused.
 fn quote_all(legs: &mut Legs, quote: LegQuote) -> bool {
-    (1..5).fold(true, |all, leg| {
-        legs.tick(LegTick { leg, quote }).is_ok() && all
-    })
+    (1..5).all(|leg| legs.tick(LegTick { leg, quote }).is_ok())
 }
 
 fn work_extremes(rt: &HostRuntime, side: Side, name: &str, want: Quote) -> io::Result<()> {

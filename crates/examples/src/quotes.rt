@@ -1,5 +1,5 @@
 // Quotes that are refused: the cause and the place, in their order.
-use crate::answer::{bid, offer, print_answer};
+use crate::answer::{Shown, print_answer};
 use crate::legs::one_against_two;
 use market::fault::{Cause, Fault};
 use market::legs::Legs;
@@ -77,7 +77,11 @@ fn work_book(rt: &HostRuntime, touch: &mut Touch) -> io::Result<()> {
         book(Some(i64::MIN), Some(i64::MIN), beyond_bid),
     ];
     for Case { tick, want } in cases {
-        print!(rt; "  book {} {}: ", bid(tick.bid), offer(tick.offer))?;
+        print!(rt;
+            "  book {} {}: ",
+            Shown("bid", tick.bid),
+            Shown("offer", tick.offer)
+        )?;
         print_answer(rt, &touch.tick(tick), &want)?;
     }
     Ok(())

@@ -1,5 +1,5 @@
 // Ranges and their refusals, on markets that are told their quotes here.
-use crate::answer::{Answer, bid, offer, print_answer};
+use crate::answer::{Answer, Shown, print_answer};
 use crate::legs::one_against_two;
 use market::better_of::Half;
 use market::cube::{CubeMarket, cube_market};
@@ -9,7 +9,7 @@ use market::quote::Quote;
 use market::range::PermittedRange;
 use market::range::permitted::permitted_range;
 use market::refusal::RangeRefusal;
-use market::side::Side;
+use market::side::Side::{self, Buy, Sell};
 use std::io;
 
 // The prices of a permitted range.
@@ -50,20 +50,8 @@ struct Order {
     want: Outcome,
 }
 
-fn buy(limit: i64, want: Outcome) -> Order {
-    Order {
-        side: Side::Buy,
-        limit,
-        want,
-    }
-}
-
-fn sell(limit: i64, want: Outcome) -> Order {
-    Order {
-        side: Side::Sell,
-        limit,
-        want,
-    }
+fn limited(side: Side, limit: i64, want: Outcome) -> Order {
+    Order { side, limit, want }
 }
 
 fn range(lowest: i64, highest: i64, initiating: i64) -> Outcome {
@@ -102,53 +90,57 @@ fn quote_book(market: &mut CubeMarket, bid: Option<i64>, offer: Option<i64>) -> 
 
 fn none_quoted(rt: &HostRuntime, market: &CubeMarket) -> io::Result<()> {
     let orders = [
-        buy(310, NO_PRICE),
-        sell(310, NO_PRICE),
-        buy(40_000_001, OUTSIDE),
+        limited(Buy, 310, NO_PRICE),
+        limited(Sell, 310, NO_PRICE),
+        limited(Buy, 40_000_001, OUTSIDE),
     ];
     work_orders(rt, market, &orders)
 }
 
 fn book_bid_alone(rt: &HostRuntime, market: &CubeMarket) -> io::Result<()> {
-    work_orders(rt, market, &[buy(310, NO_PRICE), sell(310, NO_PRICE)])
+    work_orders(
+        rt,
+        market,
+        &[limited(Buy, 310, NO_PRICE), limited(Sell, 310, NO_PRICE)],
+    )
 }
 
 fn at_294_and_304(rt: &HostRuntime, market: &CubeMarket) -> io::Result<()> {
     let orders = [
-        buy(294, range(294, 294, 294)),
-        buy(293, BELOW_FLOOR),
-        buy(303, range(294, 303, 303)),
-        buy(304, range(294, 304, 304)),
-        buy(310, range(294, 304, 304)),
-        buy(40_000_000, range(294, 304, 304)),
-        buy(40_000_001, OUTSIDE),
-        sell(304, range(304, 304, 304)),
-        sell(305, BELOW_FLOOR),
-        sell(295, range(295, 304, 295)),
-        sell(294, range(294, 304, 294)),
-        sell(-40_000_000, range(294, 304, 294)),
-        sell(-40_000_001, OUTSIDE),
-        sell(i64::MIN, OUTSIDE),
+        limited(Buy, 294, range(294, 294, 294)),
+        limited(Buy, 293, BELOW_FLOOR),
+        limited(Buy, 303, range(294, 303, 303)),
+        limited(Buy, 304, range(294, 304, 304)),
+        limited(Buy, 310, range(294, 304, 304)),
+        limited(Buy, 40_000_000, range(294, 304, 304)),
+        limited(Buy, 40_000_001, OUTSIDE),
+        limited(Sell, 304, range(304, 304, 304)),
+        limited(Sell, 305, BELOW_FLOOR),
+        limited(Sell, 295, range(295, 304, 295)),
+        limited(Sell, 294, range(294, 304, 294)),
+        limited(Sell, -40_000_000, range(294, 304, 294)),
+        limited(Sell, -40_000_001, OUTSIDE),
+        limited(Sell, i64::MIN, OUTSIDE),
     ];
     work_orders(rt, market, &orders)
 }
 
 fn crossed(rt: &HostRuntime, market: &CubeMarket) -> io::Result<()> {
     let orders = [
-        buy(400, BELOW_FLOOR),
-        buy(40_000_000, BELOW_FLOOR),
-        sell(-40_000_000, BELOW_FLOOR),
+        limited(Buy, 400, BELOW_FLOOR),
+        limited(Buy, 40_000_000, BELOW_FLOOR),
+        limited(Sell, -40_000_000, BELOW_FLOOR),
     ];
     work_orders(rt, market, &orders)
 }
 
 fn negative(rt: &HostRuntime, market: &CubeMarket) -> io::Result<()> {
     let orders = [
-        buy(-294, range(-304, -294, -294)),
-        buy(-304, range(-304, -304, -304)),
-        buy(-305, BELOW_FLOOR),
-        sell(-294, range(-294, -294, -294)),
-        sell(-293, BELOW_FLOOR),
+        limited(Buy, -294, range(-304, -294, -294)),
+        limited(Buy, -304, range(-304, -304, -304)),
+        limited(Buy, -305, BELOW_FLOOR),
+        limited(Sell, -294, range(-294, -294, -294)),
+        limited(Sell, -293, BELOW_FLOOR),
     ];
     work_orders(rt, market, &orders)
 }
@@ -158,8 +150,8 @@ fn print_shown(rt: &HostRuntime, told: &str, taken: bool, market: &CubeMarket) -
     let shown = market.shown();
     println!(rt;
         "{told} (accepted: {taken}), {}, {}",
-        bid(shown.bid),
-        offer(shown.offer)
+        Shown("bid", shown.bid),
+        Shown("offer", shown.offer)
     )
 }
 
