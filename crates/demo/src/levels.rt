@@ -61,9 +61,7 @@ impl<'a> Part<'a> {
 
     // T, the total size that it stood there with.
     fn size(&self) -> u32 {
-        self.rows
-            .iter()
-            .fold(0, |sum: u32, row| sum.saturating_add(size_of(row)))
+        self.rows.iter().map(size_of).fold(0, u32::saturating_add)
     }
 
     // K × size / T, rounded down.

@@ -25,7 +25,8 @@ fn show_row(rt: &HostRuntime, row: &FillRow) -> io::Result<()> {
 // The examples have one alike: no layer holds what only programs call, and neither program rests on the other.
 pub fn filled_in(rows: &[FillRow]) -> u32 {
     rows.iter()
-        .fold(0, |sum: u32, row| sum.saturating_add(row.filled))
+        .map(|row| row.filled)
+        .fold(0, u32::saturating_add)
 }
 
 // The rows, and whether their filled total the order's size.

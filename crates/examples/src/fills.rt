@@ -257,7 +257,8 @@ fn full_table() -> Option<Auction> {
 // The demo has one alike: no layer holds what only programs call, and neither program rests on the other.
 fn added(rows: &[FillRow]) -> u32 {
     rows.iter()
-        .fold(0, |sum: u32, row| sum.saturating_add(row.filled))
+        .map(|row| row.filled)
+        .fold(0, u32::saturating_add)
 }
 
 fn lengths(rt: &HostRuntime) -> io::Result<()> {
