@@ -9,7 +9,7 @@ use crate::response::{NewTerms, ResponseId};
 impl Auction {
     // Changes the size and the price, turned, of the response of this member with this own number, which gets a new
     // arrival number; false, and nothing changes, where none stands or it may not stand so.
-    // The answer is a yes or no and no error: whoever calls has looked at the reasons, and told them, before.
+    // The answer is a yes or no and no error: a room has looked at the reasons, and told them, before, and no other caller asks.
     pub fn change(&mut self, of: ResponseId, to: NewTerms) -> bool
         ensures answer { result ≡ may_change (auction_values self.old) (place_of of.member of.own (standing self.old.table)) to.size to.price to.arrival }
         ensures after { auction_values self.new ≡ changed (auction_values self.old) of.member of.own to.size to.price to.arrival }

@@ -26,7 +26,7 @@ impl Auction {
     }
 
     // Gives the auction another floor, if an auction can have it; false, and nothing changes, where it cannot.
-    // The answer is a yes or no and no error: whoever calls has looked at the reasons, and told them, before.
+    // The answer is a yes or no and no error: a room has looked at the reasons, and told them, before, and no other caller asks.
     pub fn move_floor(&mut self, floor: i64) -> bool
         ensures answer { result ≡ may_move_floor (auction_values self.old) floor }
         ensures after { auction_values self.new ≡ (if may_move_floor (auction_values self.old) floor then with_floor (auction_values self.old) floor else auction_values self.old) }

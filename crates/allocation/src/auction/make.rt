@@ -10,7 +10,8 @@ use crate::order::{GuaranteeKind, PairedOrder};
 use crate::table::ResponseTable;
 use market::prices::is_showable;
 
-// What an auction is made of; prices are turned.
+// What an auction is made of; prices are turned. An auction has these three as fields of its own, by which its invariants and
+// the definitions name them.
 #[derive(Clone, Copy)]
 pub(crate) struct AuctionTerms {
     pub(crate) order: PairedOrder,
@@ -49,7 +50,8 @@ impl AuctionTerms {
 }
 
 impl Auction {
-    // An auction with no response yet; none where no auction can have these terms.
+    // An auction with no response yet; none where no auction can have these terms, for whatever reason: whoever makes one asks
+    // no more.
     pub fn new(order: PairedOrder, floor: i64, initiating: i64) -> Option<Auction>
         ensures { option_map auction_values result ≡ new_auction order floor initiating }
     {

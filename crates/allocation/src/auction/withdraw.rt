@@ -8,7 +8,7 @@ use crate::response::ResponseId;
 
 impl Auction {
     // Withdraws the response of this member with this own number; false where none stands.
-    // The answer is a yes or no and no error: whoever calls has looked at the reasons, and told them, before.
+    // The answer is a yes or no and no error: a room has looked at the reasons, and told them, before, and no other caller asks.
     #[tactic(auto, using(crate::proofs::AuctionKept::each_without, crate::proofs::AuctionKept::apart_without, crate::proofs::OwnsKept::owns_without))]
     pub fn withdraw(&mut self, of: ResponseId) -> bool
         ensures answer { result ≡ is_some (place_of of.member of.own (standing self.old.table)) }

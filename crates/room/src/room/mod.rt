@@ -16,7 +16,8 @@ pub mod ticks;
 
 // Contracts read a room by `state_of` and not by an `impl Model`, whose value could not name the positions of M and S. Each
 // call says in a clause of its own that the ranking stays, since the state that `state_of` gives has no ranking in it: the
-// model takes the ranking as part of the world, and not of the state.
+// model takes the ranking as part of the world, and not of the state. Two auctions can wait: two fields, and no list, in fixed
+// memory.
 #[derive(Drop)]
 pub struct Room<M, R, S> {
     pub(crate) number: u32,
