@@ -27,6 +27,8 @@ module _ {M R S P T F Q : Type 0} where
     -- So are the room and the purse at the end: no claim is lost.
     pub room : state_of position source f.room ≡ (session_end w (at_first position source h) (vec_items h.calls)).room
     pub purse : map claim_numbers (vec_items f.purse) ≡ (session_end w (at_first position source h) (vec_items h.calls)).purse
+    -- The room has the ranking that was handed in, by which it would share out what comes next.
+    pub ranking : f.room.ranking ≡ h.ranking
     -- The answers to the calls that were made are those of their run from the room's making,
     pub of_the_run : given (session_answers w (at_first position source h) (vec_items h.calls)) ≡ map (λ (m : Moment P T F Q). m.answer) (run w h.number (position h.market) (source h.source) (made_of w position source h))
     -- and every law holds of that run.

@@ -114,6 +114,7 @@ impl<M: Market, R: Ranking, S: IntervalSource> Session<M, R, S> {
         requires answers { vec_len answers.old + vec_len calls ≤ vec_capacity answers.old }
         ensures answers { map told answers.new.items ≡ map told answers.old.items ++ session_answers (session_world M.Market.meaning S.IntervalSource.meaning R.Ranking.ahead self.old) (session_now M.Market.position S.IntervalSource.position self.old) calls.items }
         ensures session { session_now M.Market.position S.IntervalSource.position self.new ≡ session_end (session_world M.Market.meaning S.IntervalSource.meaning R.Ranking.ahead self.old) (session_now M.Market.position S.IntervalSource.position self.old) calls.items }
+        ensures ranking { self.new.room.ranking ≡ self.old.room.ranking }
     {
         for call in calls {
             answers.push_reserved(self.make_call(call));

@@ -29,6 +29,7 @@ returns g c =
           ∙ ap (λ s. session_answers w s calls) starts;
       room = ap (λ (s : Session g.M.Market.Position g.S.IntervalSource.Position). s.room) ended;
       purse = c.into_claims.ensures ∙ ap (λ (s : Session g.M.Market.Position g.S.IntervalSource.Position). s.purse) ended;
+      ranking = c.play.ensures.ranking ∙ c.new-room.ensures.ranking;
       of_the_run = answers_of_made w first calls;
       laws =
           laws_of_run w
