@@ -68,10 +68,12 @@ module _ {P T F Q : Type 0} (w : World P T F Q) (number : ℕ) (p : P) (q : Q) w
 
   -- An accepted opening opens an auction, in a range that the market permits; auctions are counted from one. From the
   -- moment at which it ends an auction waits until it is collected, so that accepted openings are accepted collectings,
-  -- auctions that wait, and the one that is open; and it can be collected from then on.
+  -- auctions that wait, and the one that is open; and it can be collected from then on. Together no more than two wait or
+  -- are open.
   pub record EndedNotVanished (past : List (Moment P T F Q)) (m : Moment P T F Q) : Type 0 where
     pub waits_until_collected : (n : ℕ) → waits n m.after ≡ (nat_lt 0 (times_ended n (m ∷ past)) && not (was_collected n (m ∷ past)))
     pub none_lost : openings (m ∷ past) ≡ collectings (m ∷ past) + held_in m.after
+    pub at_most_two : held_in m.after ≤ 2
     pub counted_from_one : (n : ℕ) → opened_number m.answer ≡ Some n → n ≡ openings past + 1
     pub opens_in_a_range : (n : ℕ) → opened_number m.answer ≡ Some n → (is_open n m.after ≡ true) × (is_some (opening_of w p q n (m ∷ past)) ≡ true)
     pub collected_when_due : CollectedWhenDue number past m

@@ -91,7 +91,7 @@ module _ {P T F Q : Type 0} (w : World P T F Q) (m : Moment P T F Q) where
     fewer : opened_number m.answer ≡ None → is_collected m.answer ≡ true → m.after.opened ≡ m.stepped.opened → held_in m.after + 1 ≡ held_in m.stepped
         → due m.after.time m.after.current ≡ false → m.after.source ≡ m.stepped.source → m.after.number ≡ m.stepped.number → Counted
 
-  opened_held : (o : Option OpenAuction) (es : List EndedAuction) → length (closed NextAuction o es) + 1 ≡ (length es + cond (is_some o) 1 0) + 1
+  pub opened_held : (o : Option OpenAuction) (es : List EndedAuction) → length (closed NextAuction o es) + 1 ≡ (length es + cond (is_some o) 1 0) + 1
   opened_held None es = omega arith
   opened_held (Some a) es = let more = closed_length NextAuction a es in omega arith
 

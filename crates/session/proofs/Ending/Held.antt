@@ -15,13 +15,13 @@ use Rattle.session.specs.declared.calls.Call.{Call}
 use Rattle.session.specs.Ending.{openings, collectings, held_in}
 use Rattle.session.specs.History.{OpeningFacts, is_open, ends_at, opens, collects, opened_number, is_accepted, is_collected, is_same, claimed, tick_in, order_in, times_ended, was_collected, stood_in, opening_of, facts_then, facts_by, floor_of, market_at, source_at, position_then}
 use Rattle.session.specs.Runs.{Answer, Moment, given_time, input_refusal, moment, step}
-use Rattle.session.proofs.Ending.Counted.{Counted, same, more, fewer, counted_by, position_by, stepped_held}
+use Rattle.session.proofs.Ending.Counted.{Counted, same, more, fewer, counted_by, opened_held, position_by, stepped_held}
 use Rattle.session.proofs.Ending.Elsewhere.{Elsewhere, stepped_elsewhere, both_elsewhere, did_elsewhere, not_opened, not_collected}
 use Rattle.session.proofs.Ending.Fates.{Fate, stays, ends, fate}
 use Rattle.session.proofs.Ending.Lives.{Stepped, stepped_by, stepped_opened, stepped_position, stepped_source, stepped_number, stepped_not_due, Alive, Over, Life, unborn, alive, waiting, gone, opening_kept, ended_kept, collected_kept, collected_now, floor_kept, stood_closed, over_kept}
 use Rattle.session.proofs.Ending.Shapes.{Did, OpenedHere, CollectedHere, opened_or_not, collected_or_not, did}
 use Rattle.room.proofs.Sound.{new_sound, permitted_ordered}
-use Rattle.room.proofs.Tests.{true_false}
+use Rattle.room.proofs.Tests.{true_false, none_some}
 use Rattle.session.proofs.Ending.Waiting.{Once, closed_other}
 
 module _ {P T F Q : Type 0} (w : World P T F Q) (drawn : WithinLimits w.source) (number : ℕ) (p : P) (q : Q) where
@@ -33,6 +33,7 @@ module _ {P T F Q : Type 0} (w : World P T F Q) (drawn : WithinLimits w.source) 
     pub none_due : due s.time s.current ≡ false
     pub counted : s.opened ≡ openings past
     pub none_lost : openings past ≡ collectings past + held_in s
+    pub at_most_two : held_in s ≤ 2
     pub lives : (n : ℕ) → Life w p q n past s
 
   -- it holds of a new room
@@ -44,6 +45,7 @@ module _ {P T F Q : Type 0} (w : World P T F Q) (drawn : WithinLimits w.source) 
     none_due = refl;
     counted = refl;
     none_lost = refl;
+    at_most_two = omega arith;
     lives = λ n. unborn refl refl refl refl refl (λ h. omega arith) (λ f. refl) refl;
   }
 
@@ -218,6 +220,24 @@ module _ {P T F Q : Type 0} (w : World P T F Q) (drawn : WithinLimits w.source) 
         let none = ap (λ (e : Option ℕ). cond (is_some e) 1 0 + openings past) a in let one = ap (λ (e : Bool). cond e 1 0 + collectings past) b in
         let i = stepped_held m.before m.stepped clock in let k = h.none_lost in omega arith
 
+    -- an opening finds none that waits, and nothing else makes the room hold more
+    one_open : (o : Option OpenAuction) → cond (is_some o) 1 0 ≤ 1
+    one_open None = omega arith
+    one_open (Some a) = omega arith
+
+    few_by : Counted w m → opened_number m.answer ≡ None → held_in m.after ≤ 2
+    few_by (same a b c) none = let e = c.as_many in let g = stepped_held m.before m.stepped clock in let k = h.at_most_two in omega arith
+    few_by (more a b c d e f g) none = none_some _ (sym none ∙ a)
+    few_by (fewer a b c d e f g) none = let i = stepped_held m.before m.stepped clock in let k = h.at_most_two in omega arith
+
+    few_next : OpenedHere w m ⊎ (opened_number m.answer ≡ None) → held_in m.after ≤ 2
+    few_next (inl d) =
+        let held = ap (λ (v : RoomState P Q). held_in v) d.after_is ∙ opened_held w m m.stepped.current m.stepped.waiting in
+        let alone = d.none_waited in
+        let current = one_open m.stepped.current in
+        omega arith
+    few_next (inr none) = few_by tally none
+
     none_due_next : Counted w m → due m.after.time m.after.current ≡ false
     none_due_next (same a b c) = c.none_due
     none_due_next (more a b c d e f g) = e
@@ -245,6 +265,7 @@ module _ {P T F Q : Type 0} (w : World P T F Q) (drawn : WithinLimits w.source) 
       none_due = none_due_next tally;
       counted = counted_next tally;
       none_lost = none_lost_next tally;
+      at_most_two = few_next (opened_or_not w m business);
       lives = λ n. life_next n (h.lives n);
     }
 

@@ -211,6 +211,7 @@ module _ {P T F Q : Type 0} (w : World P T F Q) (drawn : WithinLimits w.source) 
         record {
           waits_until_collected = λ n. waits_alone past s c h n (step w s c).0 (moment w s c ∷ past) (next.lives n) ∙ waits_by past s c h n (step w s c).0 (moment w s c ∷ past) (next.lives n);
           none_lost = next.none_lost;
+          at_most_two = next.at_most_two;
           counted_from_one = λ n. numbered_by past s c h n (tally w drawn number p q past (moment w s c) h (clock past s c h) (did w s c));
           opens_in_a_range = λ n e. let here = opened_open (moment w s c) n (opened_or_not w (moment w s c) (did w s c)) e in (here, in_range n (step w s c).0 (moment w s c ∷ past) here (next.lives n));
           collected_when_due = when_due;

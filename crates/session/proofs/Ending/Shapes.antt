@@ -25,7 +25,7 @@ use Rattle.room.specs.declared.requests.WithdrawRequest.{WithdrawRequest}
 use Rattle.room.specs.Checks.{open_checks, respond_checks, change_checks, withdraw_checks, time_checks, collect_checks}
 use Rattle.room.specs.Clock.{clocked, timed}
 use Rattle.room.specs.Collecting.{collectable, collect_call, collect_rows, fill_rows, waiting_now}
-use Rattle.room.specs.Openings.{opening, opening_range, opened_with, range_told, guarantee_refusal, room_refusal}
+use Rattle.room.specs.Openings.{opening, opening_range, opened_with, range_told, guarantee_refusal, room_refusal, any_waits}
 use Rattle.room.specs.Refusals.{refuse, unless, outcome}
 use Rattle.room.specs.Responses.{side_checked, above_checked, in_use_checked, used_checked, responding_to, responding, responded, with_response, as_stored, stored_price, stored_size, terms_told, turned_in, standing_now, plain_checked, changing, changing_in, with_change, withdrawing, withdrawing_from, with_withdrawal}
 use Rattle.room.specs.State.{OpenAuction, EndedAuction, RoomState, at_position, with_halted, with_current, with_waiting, ended, is_number, numbered, without_number}
@@ -39,7 +39,7 @@ use Rattle.session.proofs.Choices.{cond_through}
 use Rattle.session.proofs.Ending.Lives.{plain_is, unstepped}
 use Rattle.room.proofs.Checked.{TermsInside, opening_sized, response_inside, change_inside}
 use Rattle.room.proofs.Sound.{Sound, each_push, each_changed, each_without, stood_sound, stored_may_stand}
-use Rattle.room.proofs.Tests.{refuse_none, unless_ok, and_then_ok, ok_err}
+use Rattle.room.proofs.Tests.{true_false, refuse_none, unless_ok, and_then_ok, ok_err}
 
 -- an answer that tells of no auction
 pub record Quiet {T F : Type 0} (c : Call T) (a : Answer F) : Type 0 where
@@ -68,6 +68,7 @@ module _ {P T F Q : Type 0} (w : World P T F Q) where
     pub permitted_then : permitted request.order.side request.order.limit (w.market.shows m.stepped.position) ≡ Ok range
     pub guaranteed : lt_z range.initiating (turned request.order.side request.order.guarantee.price) ≡ false
     pub sized : leb 1 request.order.size ≡ true
+    pub none_waited : length m.stepped.waiting ≡ 0
 
   -- an auction is collected
   pub record CollectedHere (m : Moment P T F Q) : Type 0 where
@@ -133,6 +134,16 @@ module _ {P T F Q : Type 0} (w : World P T F Q) where
         subst (λ (z : RangePrices). lt_z z.initiating (turned o.side o.guarantee.price) ≡ false) same below,
       )
 
+  -- what opens found no auction that waited
+  none_waiting : (es : List EndedAuction) → any_waits es ≡ false → length es ≡ 0
+  none_waiting [] h = refl
+  none_waiting (e ∷ es) h = true_false h
+
+  opening_alone : (s : RoomState P Q) (o : PairedOrder) (r : RangePrices) → opening_range w s o ≡ Ok r → length s.waiting ≡ 0
+  opening_alone s o r h =
+      let past = unless_ok (room_refusal s.halted s.waiting) _ r h in
+      none_waiting s.waiting (refuse_none (any_waits s.waiting) 13 None (refuse_none s.halted 12 _ past.0).1).0
+
   abbrev opening_moment : RoomState P Q → RoomState P Q → OpeningRequest → Result RangePrices (Refusal F) → Moment P T F Q
   opening_moment s u x y =
       let z = outcome y u (opened_with w u x.order) (λ _. record { room = u.number; auction = u.opened + 1 }) in
@@ -140,7 +151,7 @@ module _ {P T F Q : Type 0} (w : World P T F Q) where
 
   did_opening : (s u : RoomState P Q) (x : OpeningRequest) (y : Result RangePrices (Refusal F)) → opening_range w u x.order ≡ y → leb 1 x.order.size ≡ true → Did (opening_moment s u x y)
   did_opening s u x (Ok r) e k = let ok = opening_ok u x.order r e in
-      opened (record { request = x; range = r; call_is = refl; answer_is = refl; after_is = refl; permitted_then = ok.0; guaranteed = ok.1; sized = k })
+      opened (record { request = x; range = r; call_is = refl; answer_is = refl; after_is = refl; permitted_then = ok.0; guaranteed = ok.1; sized = k; none_waited = opening_alone u x.order r e })
   did_opening s u x (Err f) e k = idle u.halted refl (refused_quiet (Open x) f)
 
   abbrev open_moment : RoomState P Q → OpeningRequest → Option (Refusal F) → Moment P T F Q
