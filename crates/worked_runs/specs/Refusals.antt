@@ -1,4 +1,5 @@
--- Every refusal of a room, each told by some run; the number of a refusal is the venue's.
+-- Every refusal of a room, by the venue's number. Each is told by some run, but for 17 and 27, which a million openings and
+-- 10,000 responses earn: they are told by a room that is put together by hand.
 use Rattle.std.specs.Prelude.{◌≡◌, ℕ, false, [], ◌∷◌, ◌++◌, pos, neg_ℤ, Some, None}
 use Rattle.market.specs.declared.side.Side.TheVariants.{Buy, Sell}
 use Rattle.interval.specs.declared.fixed.FixedInterval.{FixedInterval}
