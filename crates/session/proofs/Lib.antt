@@ -6,6 +6,7 @@ pub mod Sharing
 pub mod RunLaws
 mod Choices
 mod ClaimsHeld
+mod ClaimsKept
 mod MemoryTaken
 mod CollectsHeld
 mod SessionRuns

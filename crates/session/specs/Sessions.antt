@@ -1,8 +1,8 @@
 -- A session: calls on a room together with a purse of claims. Openings add the claims that they are answered; a collecting
 -- hands in the claim of its numbers. Where the purse has none of those numbers, no call is made.
-use Rattle.std.specs.Prelude.{Bool, true, false, cond, ◌&&◌, ◌||◌, List, [], ◌∷◌, ◌++◌, Some, None, Option, ◌==◌}
+use Rattle.std.specs.Prelude.{ℕ, Bool, true, false, cond, ◌&&◌, ◌||◌, List, [], ◌∷◌, ◌++◌, map, Some, None, Option, ◌==◌}
 use Rattle.room.specs.declared.answers.ClaimNumbers.{ClaimNumbers}
-use Rattle.room.specs.State.{RoomState}
+use Rattle.room.specs.State.{OpenAuction, EndedAuction, RoomState}
 use Rattle.room.specs.World.{World}
 use Rattle.session.specs.declared.calls.Call.{Call}
 use Rattle.session.specs.declared.calls.Call.TheVariants.{Open, Respond, Change, Withdraw, Tick, Halt, Resume, Clock, Look, Collect}
@@ -32,12 +32,11 @@ claim_in (Looked v) = []
 claim_in (Collected k fs) = []
 claim_in (Refused e) = []
 
--- What a collecting leaves of a purse that its claim was taken out of: a refused one hands the claim back.
+-- What a collecting leaves of a purse: an accepted one spends the claim, and a refused one hands it back, to its place.
 abbrev pub purse_left : {F : Type 0} → Answer F → ClaimNumbers → List ClaimNumbers → List ClaimNumbers
-purse_left a c others = cond (is_collected a) others (others ++ c ∷ [])
+purse_left a c purse = cond (is_collected a) (without_claim c purse) purse
 
--- The purse after a call: an opening adds the claim that it is answered; an accepted collecting spends the claim, and a
--- refused one hands it back.
+-- The purse after a call: an opening adds the claim that it is answered, behind the others.
 abbrev pub purse_after : {T F : Type 0} → Call T → Answer F → List ClaimNumbers → List ClaimNumbers
 purse_after (Open x) a purse = purse ++ claim_in a
 purse_after (Respond x) a purse = purse
@@ -48,7 +47,7 @@ purse_after (Halt t) a purse = purse
 purse_after (Resume t) a purse = purse
 purse_after (Clock t) a purse = purse
 purse_after Look a purse = purse
-purse_after (Collect c n) a purse = purse_left a c (without_claim c purse)
+purse_after (Collect c n) a purse = purse_left a c purse
 
 -- The call is made: a collecting only if its claim is held.
 abbrev pub is_made : {T : Type 0} → Call T → List ClaimNumbers → Bool
@@ -62,6 +61,20 @@ is_made (Resume t) purse = true
 is_made (Clock t) purse = true
 is_made Look purse = true
 is_made (Collect c n) purse = holds c purse
+
+-- The claims to the auctions that a room holds: to those that wait, the oldest first, and to the one that is open.
+abbrev pub number_of_open : Option OpenAuction → List ℕ
+number_of_open None = []
+number_of_open (Some a) = a.number ∷ []
+
+abbrev pub auctions_held : {P Q : Type 0} → RoomState P Q → List ℕ
+auctions_held s = map (λ (e : EndedAuction). e.number) s.waiting ++ number_of_open s.current
+
+abbrev pub claim_to : ℕ → ℕ → ClaimNumbers
+claim_to room auction = record { room = room; auction = auction }
+
+abbrev pub claims_to : {P Q : Type 0} → RoomState P Q → List ClaimNumbers
+claims_to s = map (claim_to s.number) (auctions_held s)
 
 -- The room and the numbers of the claims that are held.
 pub record Session (P Q : Type 0) : Type 0 where

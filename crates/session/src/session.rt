@@ -8,7 +8,7 @@ ghost use Rattle.session.specs.Told.{told, told_result};
 use crate::answers::Answer;
 use crate::calls::Call;
 use crate::lists::RowLists;
-use crate::purse::Purse;
+use crate::purse::{Purse, Taken};
 use allocation::fill::{FillRow, LEAST_ROWS};
 use allocation::ranking::Ranking;
 use interval::source::IntervalSource;
@@ -36,7 +36,7 @@ impl<M: Market, R: Ranking, S: IntervalSource> Session<M, R, S> {
         Ok(Answer::Opened(numbers))
     }
 
-    // Collects with the claim of these numbers, if the purse has one; a refusal puts it back.
+    // Collects with the claim of these numbers, if the purse has one; a refusal puts it back to its place.
     fn collect(
         &mut self,
         numbers: ClaimNumbers,
@@ -45,9 +45,10 @@ impl<M: Market, R: Ranking, S: IntervalSource> Session<M, R, S> {
         requires { HasMemoryFor {T = M.Tick} self.old (Collect numbers rows ∷ []) }
         ensures { MadeAsModelled (session_world M.Market.meaning S.IntervalSource.meaning R.Ranking.ahead self.old) M.Market.position S.IntervalSource.position self.old self.new (told_result result) (Collect numbers rows) }
     {
-        let Some(claim) = self.purse.take(&numbers) else {
+        let Some(taken) = self.purse.take(&numbers) else {
             return Ok(Answer::NoClaim);
         };
+        let Taken { claim, place } = taken;
         let mut written = [FillRow::BLANK; LEAST_ROWS];
         let list = &mut written[..rows.min(LEAST_ROWS)];
         // A match: with a closure under `map_err` that puts the claim back, no proof knows what the purse then holds.
@@ -57,7 +58,7 @@ impl<M: Market, R: Ranking, S: IntervalSource> Session<M, R, S> {
                 Ok(Answer::Collected(collection, rows))
             }
             Err((refusal, claim)) => {
-                self.purse.put(claim);
+                self.purse.put_at(place, claim);
                 Err(refusal)
             }
         }
