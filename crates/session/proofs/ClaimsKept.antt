@@ -1,8 +1,8 @@
 -- Where the claims held are those to the auctions that the room holds, every call leaves it so. So it is at the end of a
 -- session that begins with no claim.
-use Rattle.std.proofs.Common.{◌≡◌, ◌⊎◌, inl, inr, ℕ, ◌+◌, Bool, true, false, cond, ◌&&◌, ◌||◌, eqb, List, [], ◌∷◌, ◌++◌, map, Some, None, Option, sym, refl, ap, ◌∙◌, subst, max, arith}
+use Rattle.std.proofs.Common.{◌≡◌, ℕ, ◌+◌, Bool, true, false, cond, ◌&&◌, ◌||◌, eqb, List, [], ◌∷◌, ◌++◌, map, Some, None, Option, sym, refl, ap, ◌∙◌, subst, max, arith}
 use mathlib.Core.List.{map-append}
-use Rattle.std.proofs.Common.{append_assoc, append-nil}
+use Rattle.std.proofs.Common.{append-nil}
 use Rattle.std.proofs.lemmas.Bool.Decides.{nat_tests}
 use Rattle.std.proofs.lemmas.Bool.{and_parts, eqb-true}
 use Rattle.market.specs.declared.quote.Quote.{Quote}
@@ -11,7 +11,7 @@ use Rattle.market.specs.Range.{turned_quote}
 use Rattle.allocation.specs.declared.cause.EndCause.{EndCause}
 use Rattle.allocation.specs.declared.cause.EndCause.TheVariants.{NextAuction, PlainBelowFloor, Halt as Halted, Deadline}
 use Rattle.room.specs.declared.answers.ClaimNumbers.{ClaimNumbers}
-use Rattle.room.specs.Clock.{due, clocked}
+use Rattle.room.specs.Clock.{due}
 use Rattle.room.specs.State.{OpenAuction, EndedAuction, RoomState, at_time, at_position, with_current, ended, closed, numbered, without_number, with_waiting, new_room}
 use Rattle.room.specs.Ticks.{tick_cause, ticked_for, ticked, at_floor, floor_now}
 use Rattle.room.specs.World.{World}
@@ -20,7 +20,8 @@ use Rattle.session.specs.declared.calls.Call.{Call}
 use Rattle.session.specs.declared.calls.Call.TheVariants.{Open, Respond, Change, Withdraw, Tick, Halt, Resume, Clock, Look, Collect}
 use Rattle.session.specs.History.{opened_number, is_collected, plain_below}
 use Rattle.session.specs.Runs.{Answer, Opened, Stored, Accepted, Looked, Collected, Refused, Moment, clock_stepped, given_time, input_refusal, moment, step}
-use Rattle.session.specs.Sessions.{Session, session_of, session_after, session_end, is_made, claim_in, purse_left, purse_after, same_claim, holds, without_claim, number_of_open, auctions_held, claim_to, claims_to}
+use Rattle.session.specs.Sessions.{Session, session_of, session_after, session_end, is_made, claim_in, purse_left, purse_after, same_claim, holds, without_claim}
+use Rattle.session.specs.Claims.{number_of_open, auctions_held, claim_to, claims_to}
 use Rattle.session.proofs.Ending.Shapes.{Did, idle, opened, stored, ticks, halts, collected, OpenedHere, CollectedHere, did}
 
 abbrev numbers_of : List EndedAuction → List ℕ

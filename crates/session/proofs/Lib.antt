@@ -7,6 +7,7 @@ pub mod RunLaws
 mod Choices
 mod ClaimsHeld
 mod ClaimsKept
+mod Closing
 mod MemoryTaken
 mod CollectsHeld
 mod SessionRuns

@@ -1,8 +1,8 @@
 -- A session: calls on a room together with a purse of claims. Openings add the claims that they are answered; a collecting
 -- hands in the claim of its numbers. Where the purse has none of those numbers, no call is made.
-use Rattle.std.specs.Prelude.{ℕ, Bool, true, false, cond, ◌&&◌, ◌||◌, List, [], ◌∷◌, ◌++◌, map, Some, None, Option, ◌==◌}
+use Rattle.std.specs.Prelude.{Bool, true, false, cond, ◌&&◌, ◌||◌, List, [], ◌∷◌, ◌++◌, Some, None, Option, ◌==◌}
 use Rattle.room.specs.declared.answers.ClaimNumbers.{ClaimNumbers}
-use Rattle.room.specs.State.{OpenAuction, EndedAuction, RoomState}
+use Rattle.room.specs.State.{RoomState}
 use Rattle.room.specs.World.{World}
 use Rattle.session.specs.declared.calls.Call.{Call}
 use Rattle.session.specs.declared.calls.Call.TheVariants.{Open, Respond, Change, Withdraw, Tick, Halt, Resume, Clock, Look, Collect}
@@ -61,20 +61,6 @@ is_made (Resume t) purse = true
 is_made (Clock t) purse = true
 is_made Look purse = true
 is_made (Collect c n) purse = holds c purse
-
--- The claims to the auctions that a room holds: to those that wait, the oldest first, and to the one that is open.
-abbrev pub number_of_open : Option OpenAuction → List ℕ
-number_of_open None = []
-number_of_open (Some a) = a.number ∷ []
-
-abbrev pub auctions_held : {P Q : Type 0} → RoomState P Q → List ℕ
-auctions_held s = map (λ (e : EndedAuction). e.number) s.waiting ++ number_of_open s.current
-
-abbrev pub claim_to : ℕ → ℕ → ClaimNumbers
-claim_to room auction = record { room = room; auction = auction }
-
-abbrev pub claims_to : {P Q : Type 0} → RoomState P Q → List ClaimNumbers
-claims_to s = map (claim_to s.number) (auctions_held s)
 
 -- The room and the numbers of the claims that are held.
 pub record Session (P Q : Type 0) : Type 0 where

@@ -1,5 +1,5 @@
 // The purse of a session: the claims that are held, with places for those to come.
-ghost use Rattle.std.specs.Prelude.{◌≡◌, ◌+◌, ◌-◌, ◌≤◌, [], ◌∷◌, ◌++◌, length, map, if◌then◌else◌, Some, None as Nothing, position, vec_len, vec_capacity, MatchOption};
+ghost use Rattle.std.specs.Prelude.{◌≡◌, ◌+◌, ◌-◌, ◌≤◌, [], ◌∷◌, ◌++◌, length, map, if◌then◌else◌, Some, None as Nothing, position, vec_len, vec_capacity, MatchOption, OnOk};
 ghost use Rattle.std.specs.List.{insert};
 ghost use Rattle.std.specs.Option.{option_map};
 ghost use Rattle.room.specs.Rooms.{claim_numbers};
@@ -8,6 +8,7 @@ ghost use Rattle.session.specs.Sessions.{same_claim, holds, without_claim};
 
 use room::answers::ClaimNumbers;
 use room::claim::Claim;
+use std::alloc::AllocError;
 use std::marker::Model;
 
 // A contract sees the numbers of the claims, and how many places are free.
@@ -51,6 +52,14 @@ impl Purse {
     {
         let Purse { claims } = self;
         claims
+    }
+
+    // A place for one claim more.
+    pub(crate) fn reserve(&mut self) -> Result<(), AllocError>
+        ensures place { OnOk result (1 ≤ self.new.places) }
+        ensures numbers { self.new.numbers ≡ self.old.numbers }
+    {
+        self.claims.try_reserve(1)
     }
 
     // Takes out the first claim of these numbers; where there is none, the purse is as it was.

@@ -1,4 +1,4 @@
-use Rattle.std.proofs.Common.{List, if◌then◌else◌, is_ok, map, ap, ◌∙◌, vec_items}
+use Rattle.std.proofs.Common.{if◌then◌else◌, is_ok, map, ap, ◌∙◌, vec_items}
 use Rattle.std.specs.List.{insert}
 use Rattle.room.specs.Rooms.{claim_numbers}
 use Rattle.session.specs.Purses.{PurseValue}

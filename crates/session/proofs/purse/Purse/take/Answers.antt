@@ -1,4 +1,4 @@
-use Rattle.std.proofs.Common.{◌≤◌, length, map, Some, ap, ◌∙◌, sym, subst, vec_items}
+use Rattle.std.proofs.Common.{◌≤◌, length, map, ap, ◌∙◌, sym, subst, vec_items}
 use Rattle.std.specs.List.{insert}
 use Rattle.std.specs.Option.{option_map}
 use Rattle.std.proofs.lemmas.List.Quantifiers.{position-Some}

@@ -2,7 +2,6 @@ use Rattle.std.proofs.Common.{None, List, sym, refl, ap, ◌∙◌, arith, lengt
 use Rattle.std.specs.List.{insert}
 use Rattle.std.proofs.lemmas.Option.{cond_some}
 use Rattle.allocation.specs.declared.fill.FillRow.{FillRow}
-use Rattle.room.specs.declared.answers.ClaimNumbers.{ClaimNumbers}
 use Rattle.room.specs.declared.claim.Claim.{Claim}
 use Rattle.room.specs.Rooms.{claim_numbers}
 use Rattle.session.specs.Made.{session_now, session_world}
