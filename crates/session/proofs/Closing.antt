@@ -61,8 +61,8 @@ module _ {P T F Q : Type 0} (w : World P T F Q) (s : RoomState P Q) (c : ClaimNu
       let waits : numbered c.auction s.waiting ≡ Some x = ap (numbered c.auction) e ∙ ap (λ (b : Bool). cond b (Some x) (numbered c.auction xs)) first in
       let others : without_number c.auction s.waiting ≡ xs = ap (without_number c.auction) e ∙ ap (λ (b : Bool). cond b xs (x ∷ without_number c.auction xs)) first in
       let y : collectable s c 129 ≡ Ok x =
-              ap (λ (b : Bool). found b (is_number c.auction s.current) (numbered c.auction s.waiting)) room
-              ∙ ap (λ (b : Bool). found true b (numbered c.auction s.waiting)) opened ∙ ap (found true false) waits in
+      ap (λ (b : Bool). found b (is_number c.auction s.current) (numbered c.auction s.waiting)) room
+      ∙ ap (λ (b : Bool). found true b (numbered c.auction s.waiting)) opened ∙ ap (found true false) waits in
       record {
         auction = x;
         rest = xs;

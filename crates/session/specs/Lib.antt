@@ -13,3 +13,4 @@ pub mod Memory
 pub mod Made
 pub mod Outcomes
 pub mod Desks
+pub mod Days

@@ -10,6 +10,7 @@ use room::room::Room;
 
 pub mod call;
 pub mod close;
+pub mod day;
 pub mod make;
 
 // In its session's purse are the claims to the auctions of its room, and no others.
