@@ -1,0 +1,15 @@
+// Rooms in code, at bounds that no script reaches, with claims of other rooms, and over whole runs; each answer is held to what
+// the rules give.
+#![tactic(auto)]
+
+mod answer;
+mod made;
+mod openings;
+mod used;
+
+use std::io;
+
+fn main(rt: HostRuntime) -> io::Result<()> {
+    openings::work(&rt)?;
+    used::work(&rt)
+}
