@@ -32,31 +32,35 @@ pub fn desk(heap: Global) -> Option<TouchDesk> {
     ))
 }
 
+pub const QUOTE: Quote = Quote {
+    bid: Some(290),
+    offer: Some(300),
+};
+
+// An order to buy 10, at 300 at most, with a single stop at 295.
+pub const OPENING: OpeningRequest = OpeningRequest {
+    time: 0,
+    member: 1,
+    order: PairedOrder {
+        side: Side::Buy,
+        size: 10,
+        limit: 300,
+        guarantee: Guarantee {
+            kind: GuaranteeKind::SingleStop,
+            price: 295,
+        },
+    },
+};
+
 pub fn quoting() -> TouchCall {
     Call::Tick {
         time: 0,
-        tick: Quote {
-            bid: Some(290),
-            offer: Some(300),
-        },
+        tick: QUOTE,
     }
 }
 
-// An order to buy 10, at 300 at most, with a single stop at 295.
 pub fn opening() -> TouchCall {
-    Call::Open(OpeningRequest {
-        time: 0,
-        member: 1,
-        order: PairedOrder {
-            side: Side::Buy,
-            size: 10,
-            limit: 300,
-            guarantee: Guarantee {
-                kind: GuaranteeKind::SingleStop,
-                price: 295,
-            },
-        },
-    })
+    Call::Open(OPENING)
 }
 
 // A sealed response of 5 at 294.

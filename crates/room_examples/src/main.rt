@@ -3,6 +3,7 @@
 #![tactic(auto)]
 
 mod answer;
+mod claims;
 mod made;
 mod openings;
 mod used;
@@ -11,5 +12,6 @@ use std::io;
 
 fn main(rt: HostRuntime) -> io::Result<()> {
     openings::work(&rt)?;
-    used::work(&rt)
+    used::work(&rt)?;
+    claims::work(&rt)
 }
