@@ -22,12 +22,12 @@ use std::io;
 type TouchRoom = Room<Touch, EarlierArrival, FixedInterval>;
 
 // A room in which an auction is open, its first, and the claim to it.
-struct Opened {
-    room: TouchRoom,
-    claim: Claim,
+pub struct Opened {
+    pub room: TouchRoom,
+    pub claim: Claim,
 }
 
-fn open_in(number: u32, source: FixedInterval) -> Opened
+pub fn open_in(number: u32, source: FixedInterval) -> Opened
     ensures number { result.room.number ≡ number }
     ensures claim { claim_numbers result.claim ≡ claim_to number 1 }
     ensures held { claims_of_room result.room ≡ claim_to number 1 ∷ [] }
@@ -39,11 +39,12 @@ fn open_in(number: u32, source: FixedInterval) -> Opened
 }
 
 // Halts the room and collects its auction.
-fn settle<M: Market, R: Ranking, S: IntervalSource>(
+pub fn settle<M: Market, R: Ranking, S: IntervalSource>(
     room: &mut Room<M, R, S>,
     claim: Claim,
 ) -> Collection
     requires { claims_of_room room.old ≡ claim_numbers claim ∷ [] }
+    ensures { room.new.number ≡ room.old.number }
 {
     let mut rows = [FillRow::BLANK; LEAST_ROWS];
     room.halt(0).unwrap();
@@ -61,15 +62,24 @@ fn hand_in(room: &mut TouchRoom, claim: Claim) -> (Refusal<Fault>, Claim)
     room.collect(claim, &mut rows).unwrap_err()
 }
 
-fn show_collected(rt: &HostRuntime, told: Collection) -> io::Result<()> {
-    println!(rt; "    collected, cause {}, {} row", told.cause.letter(), told.count)
+pub fn show_collected(rt: &HostRuntime, told: Collection) -> io::Result<()> {
+    println!(rt;
+        "    collected, cause {}, {} row",
+        told.cause.letter(),
+        told.count
+    )
 }
 
 fn show_refused(rt: &HostRuntime, refusal: &Refusal<Fault>) -> io::Result<()> {
-    println!(rt; "    refusal {}{}", refusal.number(), verdict(refusal.number() == 42))
+    println!(rt;
+        "    refusal {}{}",
+        refusal.number(),
+        verdict(refusal.number() == 42)
+    )
 }
 
-// A claim of room 1, handed in to room 2 while auction 1 is open in both, and once it waits there; and then to its own room.
+// A claim of room 1, handed in to room 2 while an auction of its number is open there, and once that one was collected; and then
+// to its own room.
 fn in_another_room(rt: &HostRuntime, source: FixedInterval) -> io::Result<()> {
     let Opened { room, claim } = open_in(1, source);
     let mut own = room;
@@ -80,10 +90,12 @@ fn in_another_room(rt: &HostRuntime, source: FixedInterval) -> io::Result<()> {
     let mut other = room;
     let (while_open, claim) = hand_in(&mut other, claim);
     let its_told = settle(&mut other, its_claim);
+    let (afterwards, claim) = hand_in(&mut other, claim);
     let told = settle(&mut own, claim);
     show_refused(rt, &while_open)?;
-    show_collected(rt, told)?;
-    show_collected(rt, its_told)
+    show_collected(rt, its_told)?;
+    show_refused(rt, &afterwards)?;
+    show_collected(rt, told)
 }
 
 // Two rooms of one number take each other's claims.
@@ -105,7 +117,9 @@ pub fn work(rt: &HostRuntime) -> io::Result<()> {
     let Ok(source) = FixedInterval::new(100) else {
         return println!(rt; "no interval");
     };
-    println!(rt; "A claim of room 1, handed in to room 2, then to its own; and the claim of room 2:")?;
+    println!(rt;
+        "A claim of room 1, handed in to room 2, before and after its own auction is collected, then to room 1:"
+    )?;
     in_another_room(rt, source)?;
     println!(rt; "Two rooms of number 7, each with the other's claim:")?;
     in_a_room_of_its_number(rt, source)

@@ -1,4 +1,9 @@
 // The rooms of these examples: over a touch, with intervals of 100 and ranking by arrival. The touch bids 290 and offers 300.
+ghost use Rattle.std.specs.Prelude.{◌≡◌};
+ghost use Rattle.session.specs.declared.calls.Call.TheVariants.{Collect};
+ghost use Rattle.session.specs.Claims.{claim_to};
+
+use allocation::fill::LEAST_ROWS;
 use allocation::order::{Guarantee, GuaranteeKind, PairedOrder};
 use allocation::rankings::EarlierArrival;
 use allocation::response::{Class, Kind};
@@ -15,7 +20,9 @@ use session::desk::Desk;
 use std::alloc::Global;
 
 pub type TouchDesk = Desk<Touch, EarlierArrival, FixedInterval>;
+
 pub type TouchCall = Call<Quote>;
+
 pub type TouchAnswer = Answer<Fault>;
 
 pub const ROOM: u32 = 1;
@@ -23,13 +30,7 @@ pub const ROOM: u32 = 1;
 // A desk with a new room; none where there is no interval of 100.
 pub fn desk(heap: Global) -> Option<TouchDesk> {
     let source = FixedInterval::new(100).ok()?;
-    Some(Desk::new(
-        heap,
-        ROOM,
-        Touch::new(),
-        EarlierArrival,
-        source,
-    ))
+    Some(Desk::new(heap, ROOM, Touch::new(), EarlierArrival, source))
 }
 
 pub const QUOTE: Quote = Quote {
@@ -97,12 +98,15 @@ pub fn withdrawing(member: u8) -> TouchCall {
     })
 }
 
-pub fn collecting(auction: u32) -> TouchCall {
+pub fn collecting_in(room: u32, auction: u32) -> TouchCall
+    ensures { result ≡ Collect (claim_to room auction) 129 }
+{
     Call::Collect {
-        claim: ClaimNumbers {
-            room: ROOM,
-            auction,
-        },
-        rows: 129,
+        claim: ClaimNumbers { room, auction },
+        rows: LEAST_ROWS,
     }
+}
+
+pub fn collecting(auction: u32) -> TouchCall {
+    collecting_in(ROOM, auction)
 }

@@ -6,6 +6,7 @@ mod answer;
 mod claims;
 mod made;
 mod openings;
+mod runs;
 mod used;
 
 use std::io;
@@ -13,5 +14,6 @@ use std::io;
 fn main(rt: HostRuntime) -> io::Result<()> {
     openings::work(&rt)?;
     used::work(&rt)?;
-    claims::work(&rt)
+    claims::work(&rt)?;
+    runs::work(&rt)
 }

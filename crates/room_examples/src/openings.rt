@@ -33,7 +33,11 @@ fn open_all(rt: &HostRuntime, desk: &mut TouchDesk) -> io::Result<()> {
     let opened = count_opened(heap, desk)?;
     println!(rt; "  accepted: {opened}{}", verdict(opened == MOST))?;
     let answer = desk.call(heap, opening())?;
-    println!(rt; "  one more: {}{}", Told(&answer), verdict(is_refusal(&answer, 17)))
+    println!(rt;
+        "  one more: {}{}",
+        Told(&answer),
+        verdict(is_refusal(&answer, 17))
+    )
 }
 
 pub fn work(rt: &HostRuntime) -> io::Result<()> {

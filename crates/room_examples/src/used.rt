@@ -1,6 +1,8 @@
 // The 10,000 responses and changes of a member, and one more.
 use crate::answer::{Told, is_refusal, is_stored, print_auctions, verdict};
-use crate::made::{TouchCall, TouchDesk, changing, desk, opening, quoting, responding, withdrawing};
+use crate::made::{
+    TouchCall, TouchDesk, changing, desk, opening, quoting, responding, withdrawing,
+};
 use std::alloc::{AllocError, Global};
 use std::io;
 
@@ -29,7 +31,11 @@ fn show_refused(
     call: TouchCall,
 ) -> io::Result<()> {
     let answer = desk.call(rt.alloc(), call)?;
-    println!(rt; "  {name}: {}{}", Told(&answer), verdict(is_refusal(&answer, 27)))
+    println!(rt;
+        "  {name}: {}{}",
+        Told(&answer),
+        verdict(is_refusal(&answer, 27))
+    )
 }
 
 fn show_stored(
@@ -39,7 +45,11 @@ fn show_stored(
     call: TouchCall,
 ) -> io::Result<()> {
     let answer = desk.call(rt.alloc(), call)?;
-    println!(rt; "  {name}: {}{}", Told(&answer), verdict(is_stored(&answer)))
+    println!(rt;
+        "  {name}: {}{}",
+        Told(&answer),
+        verdict(is_stored(&answer))
+    )
 }
 
 fn use_all(rt: &HostRuntime, desk: &mut TouchDesk) -> io::Result<()> {
