@@ -2,11 +2,14 @@ mod LevelShape
 mod LevelFacts
 mod ShareFacts
 mod SplitFacts
+mod ContraSplits
 mod RowLists
 mod ClassRows
 pub mod Mates
 mod LevelRows
+mod ContraRows
 mod FillFacts
+mod ContraFacts
 mod Writes
 mod Puts
 mod WalkSteps
