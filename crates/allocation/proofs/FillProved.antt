@@ -22,12 +22,14 @@ use Rattle.allocation.specs.FillLaws.{FillLaws}
 use Rattle.allocation.specs.FillList.{fills, fill_list, contra_terms, order_levels}
 use Rattle.allocation.specs.Levels.{Level, levels, contra_level, flat}
 use Rattle.allocation.specs.LevelSteps.{Sized, Sound}
+use Rattle.allocation.specs.OnlyShares.{OnlyTheseShares}
 use Rattle.allocation.specs.Splits.{guaranteed}
 use Rattle.allocation.specs.Walk.{walked}
 use Rattle.allocation.proofs.AuctionKept.{both_left, both_right}
 use Rattle.allocation.proofs.ContraFacts.{fills_contra_lawful}
 use Rattle.allocation.proofs.FillFacts.{fills_lawful}
 use Rattle.allocation.proofs.LevelFacts.{holds_levels, ascending_levels, among_levels, shuffled_flat, flat_arranged, all_flat, shuffled_arranged, Apart}
+use Rattle.allocation.proofs.LawsDecide.{laws_decide}
 use Rattle.allocation.proofs.LevelRows.{Stands}
 use Rattle.allocation.proofs.LevelShape.{Holds, Ascending, Among}
 use Rattle.allocation.proofs.WalkFacts.{walked_is_fills, walkable_levels, few_levels}
@@ -149,11 +151,35 @@ contra_in_order ahead order floor initiating stood in_order under stop_at e =
     let h = levels_in_order ahead order floor initiating stood in_order under stop_at e in
     fills_contra_lawful order.side (contra_terms order initiating (length stood)) order.size floor (order_levels ahead order initiating stood) h.holds h.ascending h.among h.stand h.low h.high
 
--- the fill list of an auction keeps both
+-- and no other shares keep both
+pub only_in_order : (ahead : Response → Response → Bool) (order : PairedOrder) (floor initiating : ℤ) (stood : List Response) → le_z floor initiating ≡ true → le_z order.guarantee.price initiating ≡ true
+    → stop_ok order.guarantee.kind floor order.guarantee.price ≡ true → each (response_ok order.size floor initiating) stood ≡ true
+    → OnlyTheseShares order.side order.size floor order.guarantee initiating (guaranteed order.size (length stood)) stood (fill_list ahead order initiating stood)
+only_in_order ahead order floor initiating stood in_order under stop_at e rows laws contra =
+    laws_decide order.side (contra_terms order initiating (length stood)) order.size floor stood rows (fill_list ahead order initiating stood)
+    (levels_in_order ahead order floor initiating stood in_order under stop_at e).high laws contra
+    (fill_list_in_order ahead order floor initiating stood in_order under stop_at e)
+    (contra_in_order ahead order floor initiating stood in_order under stop_at e)
+
+-- the fill list of an auction keeps its laws
 pub fill_list_lawful : (ahead : Response → Response → Bool) (order : PairedOrder) (floor initiating : ℤ) (stood : List Response) → Terms order floor initiating → each (response_ok order.size floor initiating) stood ≡ true
-    → FillLaws order.side order.size floor initiating stood (fill_list ahead order initiating stood) × ContraLaws order.side order.guarantee initiating (guaranteed order.size (length stood)) (fill_list ahead order initiating stood)
-fill_list_lawful ahead order floor initiating stood h e =
-    (fill_list_in_order ahead order floor initiating stood h.in_order h.guaranteed_at h.stop_at e, contra_in_order ahead order floor initiating stood h.in_order h.guaranteed_at h.stop_at e)
+    → FillLaws order.side order.size floor initiating stood (fill_list ahead order initiating stood)
+fill_list_lawful ahead order floor initiating stood h e = fill_list_in_order ahead order floor initiating stood h.in_order h.guaranteed_at h.stop_at e
+
+-- rows that keep them and those of the contra, which no other shares keep
+pub record Lawful (order : PairedOrder) (floor initiating : ℤ) (stood : List Response) (rows : List FillRow) : Type 0 where
+  pub of_fills : FillLaws order.side order.size floor initiating stood rows
+  pub of_contra : ContraLaws order.side order.guarantee initiating (guaranteed order.size (length stood)) rows
+  pub only : OnlyTheseShares order.side order.size floor order.guarantee initiating (guaranteed order.size (length stood)) stood rows
+
+-- those of the fill list of an auction do
+pub auction_lawful : (ahead : Response → Response → Bool) (order : PairedOrder) (floor initiating : ℤ) (stood : List Response) → Terms order floor initiating → each (response_ok order.size floor initiating) stood ≡ true
+    → Lawful order floor initiating stood (fill_list ahead order initiating stood)
+auction_lawful ahead order floor initiating stood h e = record {
+  of_fills = fill_list_lawful ahead order floor initiating stood h e;
+  of_contra = contra_in_order ahead order floor initiating stood h.in_order h.guaranteed_at h.stop_at e;
+  only = only_in_order ahead order floor initiating stood h.in_order h.guaranteed_at h.stop_at e;
+}
 
 -- the front and the rest of what an accepted call wrote
 pub written_front : (fs rows new : List FillRow) (n : ℕ) → n ≡ length fs → new ≡ fs ++ drop n rows → take n new ≡ fs

@@ -3,6 +3,9 @@ mod LevelFacts
 mod ShareFacts
 mod SplitFacts
 mod ContraSplits
+mod SharesDecided
+mod RowCounts
+mod LawsDecide
 mod RowLists
 mod ClassRows
 pub mod Mates

@@ -8,14 +8,17 @@ use Rattle.allocation.specs.declared.fill.FillRow.{FillRow}
 use Rattle.allocation.specs.declared.order.Guarantee.{Guarantee}
 use Rattle.allocation.specs.declared.order.GuaranteeKind.{GuaranteeKind}
 use Rattle.allocation.specs.declared.order.GuaranteeKind.TheVariants.{SingleStop, AutoMatchLimit}
-use Rattle.allocation.specs.declared.response.Class.TheVariants.{Other}
+use Rattle.allocation.specs.declared.response.Class.TheVariants.{Customer, Other}
 use Rattle.allocation.specs.FillLaws.{of_response, kept, filled_in, size_in, same_price, same_class}
 
 -- Rows that are of no response are the contra's.
 abbrev pub of_contra : FillRow → Bool
 of_contra f = not (of_response f)
 
--- Rows of responses that are no customer's.
+-- Rows of customers, and of responses that are no customer's.
+abbrev pub of_customer : FillRow → Bool
+of_customer f = of_response f && same_class Customer f.class
+
 abbrev pub of_other : FillRow → Bool
 of_other f = of_response f && same_class Other f.class
 

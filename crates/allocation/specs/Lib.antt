@@ -10,6 +10,7 @@ pub mod Arranged
 pub mod FillList
 pub mod FillLaws
 pub mod ContraLaws
+pub mod OnlyShares
 pub mod LevelSteps
 pub mod Plans
 pub mod Walk

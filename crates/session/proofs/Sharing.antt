@@ -3,12 +3,13 @@
 use Rattle.std.proofs.Common.{◌≡◌, ◌⊎◌, inl, inr, ℕ, false, List, [], length, ℤ, Some, sym, refl, ap, ◌∙◌, subst}
 use Rattle.interval.specs.Source.{WithinLimits}
 use lib.ListN.{length-map}
-use Rattle.allocation.proofs.FillProved.{fill_list_in_order, contra_in_order}
+use Rattle.allocation.proofs.FillProved.{fill_list_in_order, contra_in_order, only_in_order}
 use Rattle.allocation.specs.declared.fill.FillRow.{FillRow}
 use Rattle.allocation.specs.declared.order.PairedOrder.{PairedOrder}
 use Rattle.allocation.specs.Auction.{AuctionValues, told_of}
 use Rattle.allocation.specs.ContraLaws.{ContraLaws}
 use Rattle.allocation.specs.FillLaws.{Told, response_told}
+use Rattle.allocation.specs.OnlyShares.{OnlyTheseShares}
 use Rattle.allocation.specs.Rankings.{by_key}
 use Rattle.allocation.specs.Splits.{guaranteed}
 use Rattle.room.specs.declared.answers.ClaimNumbers.{ClaimNumbers}
@@ -35,12 +36,15 @@ module _ {P T F Q : Type 0} (w : World P T F Q) (p : P) (q : Q) where
       subst (λ (u : AuctionValues). ToldFillLaws u.order.side u.order.size u.order.guarantee u.floor u.initiating (told_of u) (fill_rows w e)) k
       (let s = subst Sound (sym k) h in
       let counted : length e.values.stood ≡ length (told_of e.values) = sym (length-map e.values.stood (response_told e.values.order.side)) in
-      let may = contra_in_order (by_key w.ahead) e.values.order e.values.floor e.values.initiating e.values.stood s.in_order s.guaranteed_at s.stop_at s.standing in
+      let held = e.values in
+      let may = contra_in_order (by_key w.ahead) held.order held.floor held.initiating held.stood s.in_order s.guaranteed_at s.stop_at s.standing in
+      let only = only_in_order (by_key w.ahead) held.order held.floor held.initiating held.stood s.in_order s.guaranteed_at s.stop_at s.standing in
       record {
-        stood = e.values.stood;
+        stood = held.stood;
         told_of_them = refl;
-        fill_laws = fill_list_in_order (by_key w.ahead) e.values.order e.values.floor e.values.initiating e.values.stood s.in_order s.guaranteed_at s.stop_at s.standing;
-        contra = subst (λ (n : ℕ). ContraLaws e.values.order.side e.values.order.guarantee e.values.initiating (guaranteed e.values.order.size n) (fill_rows w e)) counted may;
+        fill_laws = fill_list_in_order (by_key w.ahead) held.order held.floor held.initiating held.stood s.in_order s.guaranteed_at s.stop_at s.standing;
+        contra = subst (λ (n : ℕ). ContraLaws held.order.side held.order.guarantee held.initiating (guaranteed held.order.size n) (fill_rows w e)) counted may;
+        only = subst (λ (n : ℕ). OnlyTheseShares held.order.side held.order.size held.floor held.order.guarantee held.initiating (guaranteed held.order.size n) held.stood (fill_rows w e)) counted only;
       })
 
   -- and so it is of the values that the history tells
