@@ -77,14 +77,15 @@ pub record ContraLaws (side : Side) (guarantee : Guarantee) (initiating : ℤ) (
       AllByRecursion (λ f. AllByRecursion (λ g. of_contra f ≡ true → of_response g ≡ true → 0 < g.left → row_price side g ≤ℤ row_price side f
       → got of_contra (priced_up_to side (row_price side f)) rows ≤ guaranteed) rows) rows
   -- Its share before others: where a response of an other trades from the guarantee on, the contra got its guaranteed share
-  -- up to that price, or matched it.
+  -- up to that price, or, before the initiating price of an auto-match limit, matched all responses there.
   pub share_before_others :
       AllByRecursion (λ f. of_other f ≡ true → 0 < f.filled → guarantee.price ≤ℤ row_price side f
       → (guaranteed ≤ got of_contra (priced_up_to side (row_price side f)) rows) ⊎ MatchedAll side guarantee.kind initiating (row_price side f) rows) rows
-  -- Not beside others once it has its share: under an auto-match limit it trades before the initiating price only while it
-  -- lacks some of its guaranteed share.
+  -- Only while it lacks some: under an auto-match limit it trades before the initiating price only while it has less than
+  -- its guaranteed share from better prices.
   pub only_while_lacking : guarantee.kind ≡ AutoMatchLimit → AllByRecursion (λ f. of_contra f ≡ true → row_price side f <ℤ initiating → got of_contra (priced_below side (row_price side f)) rows < guaranteed) rows
-  -- No more than a match: nor does it get more there than all responses together, unless too little is left for a match.
+  -- No more than a match: nor does it get more at such a price than all responses together, unless too little is left for
+  -- a match.
   pub match_at_most :
       guarantee.kind ≡ AutoMatchLimit → AllByRecursion (λ f. of_contra f ≡ true → row_price side f <ℤ initiating
       → (got of_contra (priced_at side (row_price side f)) rows ≤ got of_response (priced_at side (row_price side f)) rows) ⊎ TooFewToMatch side (row_price side f) rows) rows
