@@ -5,11 +5,13 @@ use Rattle.session.specs.declared.calls.Call.{Call}
 use Rattle.session.specs.Laws.{RunLaws, LawsOfRun}
 use Rattle.session.proofs.Ending.Laws.{auctions_end_as_ruled}
 use Rattle.session.proofs.Learning.Learned.{member_sees_the_same}
+use Rattle.session.proofs.Learning.LearnedInSessions.{member_sees_the_same_in_sessions}
 use Rattle.session.proofs.Sharing.{contracts_are_shared_lawfully}
 
 pub run_laws : {P T F Q : Type 0} (w : World P T F Q) → Terms w → RunLaws w
 run_laws w terms = record {
   learning = member_sees_the_same w;
+  session_learning = member_sees_the_same_in_sessions w;
   ending = auctions_end_as_ruled w terms;
   sharing = contracts_are_shared_lawfully w terms;
 }

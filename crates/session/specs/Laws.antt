@@ -6,10 +6,12 @@ use Rattle.session.specs.Ending.{EndedWithinASecond, BusinessAfterTheClockStep, 
 use Rattle.session.specs.History.{Throughout}
 use Rattle.session.specs.Learning.{AllAlike, opens_here, ends_here, seen_by, MemberSeesTheSame}
 use Rattle.session.specs.Runs.{run}
+use Rattle.session.specs.SessionLearning.{MemberSeesTheSameInSessions}
 use Rattle.session.specs.Sharing.{CollectedLawfully, ContractsAreSharedLawfully}
 
 pub record RunLaws {P T F Q : Type 0} (w : World P T F Q) : Type 0 where
   pub learning : MemberSeesTheSame w
+  pub session_learning : MemberSeesTheSameInSessions w
   pub ending : AuctionsEndAsRuled w
   pub sharing : ContractsAreSharedLawfully w
 
