@@ -1,15 +1,12 @@
 -- A day: a run that begins with no claim. What it comes to is told by a desk.
 use Rattle.std.specs.Prelude.{◌≡◌, [], map, vec_items}
-use Rattle.std.specs.Option.{option_map}
 use Rattle.room.specs.Rooms.{state_of}
 use Rattle.room.specs.State.{new_room}
 use Rattle.room.specs.World.{World}
 use Rattle.session.specs.declared.desk.day.Day.{Day}
 use Rattle.session.specs.declared.desk.day.DayDone.{DayDone}
-use Rattle.session.specs.Laws.{LawsOfRun}
-use Rattle.session.specs.Runs.{Moment}
-use Rattle.session.specs.SessionLearning.{SeesTheSameFrom}
-use Rattle.session.specs.Sessions.{Session, session_of, session_answers, session_moments, session_end, calls_made}
+use Rattle.session.specs.Laws.{LawsOfRun, LawsOfSession}
+use Rattle.session.specs.Sessions.{Session, session_of, session_answers, session_end, calls_made}
 use Rattle.session.specs.Told.{told}
 
 -- The room at its making, with no claim.
@@ -25,8 +22,6 @@ module _ {M R S P T F Q : Type 0} where
     pub ranking : done.desk.session.room.ranking ≡ d.ranking
     -- Every law holds of the run of the calls that were made.
     pub laws : LawsOfRun w d.number (position d.market) (source d.source) (calls_made w (at_dawn position source d) (vec_items d.calls))
-    -- All the answers are those of the moments of the session, none where no call was made,
-    pub of_the_session : session_answers w (at_dawn position source d) (vec_items d.calls) ≡ map (option_map (λ (m : Moment P T F Q). m.answer)) (session_moments w (at_dawn position source d) (vec_items d.calls))
-    -- and of the calls as they were handed in, the collectings whose claim is not held among them, a member may learn no more
-    -- than the law says.
-    pub learning : SeesTheSameFrom w (at_dawn position source d) (vec_items d.calls)
+    -- The laws of the session hold, of the calls as they were handed in, with the collectings whose claim is not held: what a
+    -- member may learn of them.
+    pub session_laws : LawsOfSession w (at_dawn position source d) (vec_items d.calls)

@@ -26,16 +26,12 @@ module _ {P T F Q : Type 0} where
     pub shown : map (seen_if_made u) ms ≡ map (seen_if_made u) ns
     pub made : map is_some ms ≡ map is_some ns
 
-  -- Of these calls from a session on: against every other list of calls from it on that is alike to the member, and in which
-  -- openings are accepted and auctions end at the same places, the member is shown the same, and calls are made at the same
-  -- places.
-  abbrev pub SeesTheSameFrom : World P T F Q → Session P Q → List (Call T) → Type 0
-  SeesTheSameFrom w s cs =
-      (u : ℕ) (ds : List (Call T)) → AllAlike u cs ds
-      → map opens_if_made (session_moments w s cs) ≡ map opens_if_made (session_moments w s ds)
-      → map ends_if_made (session_moments w s cs) ≡ map ends_if_made (session_moments w s ds)
-      → ShownTheSame u (session_moments w s cs) (session_moments w s ds)
-
--- So it is from every session on, whatever its room and its purse.
+-- Two lists of calls from one session on, whatever its room and its purse, that are alike to a member, and in which openings
+-- are accepted at the same places and auctions end at the same places: the member is shown the same at every place, and calls
+-- are made at the same places.
 abbrev pub MemberSeesTheSameInSessions : {P T F Q : Type 0} → World P T F Q → Type 0
-MemberSeesTheSameInSessions {P} {T} {F} {Q} w = (s : Session P Q) (cs : List (Call T)) → SeesTheSameFrom w s cs
+MemberSeesTheSameInSessions {P} {T} {F} {Q} w =
+    (s : Session P Q) (u : ℕ) (cs ds : List (Call T)) → AllAlike u cs ds
+    → map opens_if_made (session_moments w s cs) ≡ map opens_if_made (session_moments w s ds)
+    → map ends_if_made (session_moments w s cs) ≡ map ends_if_made (session_moments w s ds)
+    → ShownTheSame u (session_moments w s cs) (session_moments w s ds)

@@ -101,4 +101,4 @@ module _ {P T F Q : Type 0} (w : World P T F Q) (u : ℕ) where
       }
 
 pub member_sees_the_same_in_sessions : {P T F Q : Type 0} (w : World P T F Q) → MemberSeesTheSameInSessions w
-member_sees_the_same_in_sessions w s cs u ds a o e = two_sessions w u s s cs ds refl a o e
+member_sees_the_same_in_sessions w s u cs ds a o e = two_sessions w u s s cs ds refl a o e

@@ -9,9 +9,8 @@ use Rattle.session.specs.Sessions.{Session, session_answers, session_end, sessio
 use Rattle.session.specs.Told.{told}
 use Rattle.session.specs.Claims.{claims_to}
 use Rattle.session.proofs.ClaimsKept.{match_at_end}
-use Rattle.session.proofs.Learning.LearnedInSessions.{member_sees_the_same_in_sessions}
-use Rattle.session.proofs.RunLaws.{laws_of_run}
-use Rattle.session.proofs.SessionRuns.{answers_of_made, answers_of_moments, session_is}
+use Rattle.session.proofs.RunLaws.{laws_of_run, laws_of_session}
+use Rattle.session.proofs.SessionRuns.{answers_of_made, session_is}
 use Rattle.session.proofs.run.run.Goals as goal
 
 pub returns : goal.returns
@@ -46,6 +45,5 @@ returns g c =
             carries_on = g.met.R.Ranking.carries_on h.ranking;
           })
           h.number (g.M.Market.position h.market) (g.S.IntervalSource.position h.source) (made_of w g.M.Market.position g.S.IntervalSource.position h);
-      of_the_session = answers_of_moments w first calls;
-      learning = λ u ds. member_sees_the_same_in_sessions w first calls u ds;
+      session_laws = laws_of_session w first calls;
     }
