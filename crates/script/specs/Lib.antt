@@ -1,0 +1,3 @@
+-- What a script says and what it is answered, a file a topic.
+pub mod Statements
+pub mod Chosen

@@ -1,0 +1,5 @@
+// The script of a venue, as text: reading its statements, setting up the room, and the text of the answers.
+#![tactic(auto)]
+
+pub mod chosen;
+pub mod statement;
