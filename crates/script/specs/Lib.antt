@@ -1,3 +1,5 @@
 -- What a script says and what it is answered, a file a topic.
 pub mod Statements
 pub mod Chosen
+pub mod Words
+pub mod Numbers

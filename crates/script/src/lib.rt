@@ -2,4 +2,7 @@
 #![tactic(auto)]
 
 pub mod chosen;
+pub mod misread;
+mod number;
 pub mod statement;
+mod words;
