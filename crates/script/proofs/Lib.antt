@@ -1,3 +1,4 @@
--- What follows of the definitions of words (Pieces) and of numbers (Capped).
+-- What follows of the definitions of words (Pieces), of where a line is cut (Cuts) and of numbers (Capped).
 mod Pieces
+mod Cuts
 mod Capped

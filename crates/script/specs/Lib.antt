@@ -3,3 +3,6 @@ pub mod Statements
 pub mod Chosen
 pub mod Words
 pub mod Numbers
+pub mod Readers
+pub mod Parts
+pub mod Grammar

@@ -4,5 +4,6 @@
 pub mod chosen;
 pub mod misread;
 mod number;
+pub mod read;
 pub mod statement;
 mod words;

@@ -25,10 +25,10 @@ pub(crate) fn number_in(digits: &[u8], most: u64) -> Option<u64>
 }
 
 // A price, with or without a minus.
-pub(crate) fn price_in(word: &[u8]) -> Option<i64>
+pub(crate) fn price_in(word: &str) -> Option<i64>
     ensures { result ≡ price_in word.now }
 {
-    match word {
+    match word.as_bytes() {
         [b'-', digits @ ..] => Some(0_i64.saturating_sub_unsigned(number_in(digits, u64::MAX)?)),
         digits => Some(0_i64.saturating_add_unsigned(number_in(digits, u64::MAX)?)),
     }

@@ -8,7 +8,7 @@ use std::marker::Model;
 // The words that are left of a line.
 #[derive(Drop)]
 pub(crate) struct Words<'a> {
-    rest: &'a [u8],
+    rest: &'a str,
 }
 
 impl<'a> Model for Words<'a> {
@@ -30,36 +30,36 @@ fn is_comment(byte: u8) -> bool
 }
 
 // How many bytes stand before the comment.
-fn length_before_comment(line: &[u8]) -> usize
+fn length_before_comment(line: &str) -> usize
     ensures { result ≡ position_or_len is_comment line.now }
 {
-    line.iter().take_while(|b| !is_comment(**b)).count()
+    line.bytes().take_while(|b| !is_comment(*b)).count()
 }
 
 // How many blanks stand in front.
-fn length_of_blanks(bytes: &[u8]) -> usize
-    ensures { result ≡ prefix_len is_blank bytes.now }
+fn length_of_blanks(text: &str) -> usize
+    ensures { result ≡ prefix_len is_blank text.now }
 {
-    bytes.iter().take_while(|b| is_blank(**b)).count()
+    text.bytes().take_while(|b| is_blank(*b)).count()
 }
 
 // How many bytes stand before the first blank.
-fn length_of_word(bytes: &[u8]) -> usize
-    ensures { result ≡ position_or_len is_blank bytes.now }
+fn length_of_word(text: &str) -> usize
+    ensures { result ≡ position_or_len is_blank text.now }
 {
-    bytes.iter().take_while(|b| !is_blank(**b)).count()
+    text.bytes().take_while(|b| !is_blank(*b)).count()
 }
 
 // What follows the blanks in front.
-fn past_blanks(bytes: &[u8]) -> &[u8]
-    ensures { result.now ≡ drop (prefix_len is_blank bytes.now) bytes.now }
+fn past_blanks(text: &str) -> &str
+    ensures { result.now ≡ drop (prefix_len is_blank text.now) text.now }
 {
-    bytes.split_at(length_of_blanks(bytes)).1
+    text.split_at(length_of_blanks(text)).1
 }
 
 impl<'a> Words<'a> {
     // The words before the comment.
-    pub(crate) fn of(line: &'a [u8]) -> Words<'a>
+    pub(crate) fn of(line: &'a str) -> Words<'a>
         ensures { result ≡ line_words line.now }
     {
         Words {
@@ -68,11 +68,11 @@ impl<'a> Words<'a> {
     }
 
     // Takes the next word, if there is one.
-    pub(crate) fn next(&mut self) -> Option<&'a [u8]>
+    pub(crate) fn next(&mut self) -> Option<&'a str>
         ensures { MatchOption result ((self.old ≡ []) × (self.new ≡ [])) (λ w. self.old ≡ w.now ∷ self.new) }
     {
-        let bytes = past_blanks(self.rest);
-        let (word, rest) = bytes.split_at(length_of_word(bytes));
+        let text = past_blanks(self.rest);
+        let (word, rest) = text.split_at(length_of_word(text));
         self.rest = rest;
         if word.is_empty() {
             return None;
