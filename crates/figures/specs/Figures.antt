@@ -1,30 +1,23 @@
--- Worked figures: from quotes to what is shown, from there to a range, and from an order with its responses to its fills.
-use Rattle.std.specs.Prelude.{◌≡◌, ℕ, true, List, [], ◌∷◌, map, ℤ, pos, Some, None, Ok}
+-- Worked figures: from quotes to what is shown, from there to a range, and, through a room from the first tick to the fill list,
+-- how an order is shared out among its responses and the contra.
+use Rattle.std.specs.Prelude.{◌≡◌, ℕ, List, [], ◌∷◌, ◌++◌, length, pos, Some, None, Ok}
 use Rattle.market.specs.declared.better_of.Half.TheVariants.{Left, Right}
-use Rattle.market.specs.declared.legs.leg.Leg.{Leg}
 use Rattle.market.specs.declared.legs.leg.LegTick.{LegTick}
 use Rattle.market.specs.declared.quote.Quote.{Quote}
-use Rattle.market.specs.declared.side.Side.TheVariants.{Buy, Sell}
-use Rattle.allocation.specs.declared.fill.FillRow.{FillRow}
-use Rattle.allocation.specs.declared.order.GuaranteeKind.{GuaranteeKind}
-use Rattle.allocation.specs.declared.order.GuaranteeKind.TheVariants.{SingleStop, AutoMatchLimit}
-use Rattle.allocation.specs.declared.order.PairedOrder.{PairedOrder}
-use Rattle.allocation.specs.declared.response.Class.{Class}
-use Rattle.allocation.specs.declared.response.Class.TheVariants.{Customer, Other}
-use Rattle.allocation.specs.declared.response.Kind.TheVariants.{Sealed}
-use Rattle.allocation.specs.declared.response.Response.{Response}
-use Rattle.allocation.specs.AuctionInvariant.{terms_ok}
-use Rattle.allocation.specs.FillList.{fill_list}
-use Rattle.allocation.specs.Rankings.{by_key, earlier}
+use Rattle.market.specs.declared.side.Side.TheVariants.{Buy}
 use Rattle.market.specs.Cube.{CubeTicks, cube_start, cube_meaning}
 use Rattle.market.specs.History.{after}
 use Rattle.market.specs.Improve.{improved_quote}
-use Rattle.market.specs.Legs.{legs_meaning, unquoted, smallest_ratio}
+use Rattle.market.specs.Legs.{legs_meaning, smallest_ratio}
 use Rattle.market.specs.Range.{permitted}
-
--- Two legs that are not yet quoted: one bought at this ratio, one sold at that.
-abbrev pub bought_and_sold : ℕ → ℕ → List Leg
-bought_and_sold m n = unquoted (record { side = Buy; ratio = m }) ∷ (unquoted (record { side = Sell; ratio = n }) ∷ [])
+use Rattle.allocation.specs.declared.cause.EndCause.TheVariants.{Deadline}
+use Rattle.allocation.specs.declared.fill.FillRow.{FillRow}
+use Rattle.allocation.specs.declared.order.Guarantee.{Guarantee}
+use Rattle.allocation.specs.declared.response.Class.{Class}
+use Rattle.allocation.specs.declared.response.Class.TheVariants.{Customer, Other}
+use Rattle.allocation.specs.declared.response.Kind.TheVariants.{Sealed}
+use Rattle.worked_runs.specs.Rooms.{Day, Goes, bought_and_sold, by_arrival, hundred}
+use Rattle.worked_runs.specs.Script.{Line, ◌⇒◌, buys, stop, auto_match, offers, leg_tick, book_tick, clock, looks, collects, claim, stored, accepted, one_open, viewed, collected, row, contra_row}
 
 -- A quote for a leg.
 abbrev pub leg_at : ℕ → ℕ → ℕ → LegTick
@@ -58,14 +51,27 @@ DoubledRatiosImproveByTwo =
 abbrev pub derived_ticks : CubeTicks
 derived_ticks = Right (leg_at 1 500 502) ∷ (Right (leg_at 2 97 99) ∷ (Left (quoted_at 400 406) ∷ []))
 
--- There, an order to buy with a limit of 405 gets the initiating price 404 and the range 402 to 404, and its auction can
--- have an auto-match limit of 402.
+-- There, an order to buy with a limit of 405 gets the initiating price 404 and the range 402 to 404.
 abbrev pub BookAndLegsPermit402To404 : Type 0
 BookAndLegsPermit402To404 =
     (legs_meaning.shows (after legs_meaning (bought_and_sold 1 1) (leg_at 1 500 502 ∷ (leg_at 2 97 99 ∷ []))) ≡ quoted_at 401 405)
     × (permitted Buy (pos 405) (cube_meaning.shows (after cube_meaning (cube_start (bought_and_sold 1 1)) derived_ticks))
     ≡ Ok (record { side = Buy; floor = pos 402; contra = pos 404; initiating = pos 404 }))
-    × (terms_ok (record { side = Buy; size = 100; limit = pos 405; guarantee = record { kind = AutoMatchLimit; price = pos 402 } }) (pos 402) (pos 404) ≡ true)
+
+-- Through a room: the order opens with an auto-match limit of 402, everybody sees the initiating price of 404, and a response at
+-- 401 is stored at 402, where the contra matches it; the rest is the contra's at 404.
+abbrev pub AutoMatchFrom402Through404 : Type 0
+AutoMatchFrom402Through404 =
+    Goes by_arrival (cube_start (bought_and_sold 1 1)) hundred
+    (leg_tick 0 1 500 502 ⇒ accepted
+    ∷ leg_tick 0 2 97 99 ⇒ accepted
+    ∷ book_tick 0 400 406 ⇒ accepted
+    ∷ buys 10000 100 405 (auto_match 402) ⇒ claim 1
+    ∷ looks ⇒ one_open 10000 0 (viewed 1 Buy 100 404)
+    ∷ offers Sealed Other 10010 2 1 10 401 ⇒ stored 10 402
+    ∷ clock 10100 ⇒ accepted
+    ∷ collects 1 ⇒ collected 3 Deadline (contra_row 402 10 ∷ row Sealed Other 2 1 402 10 0 ∷ contra_row 404 80 ∷ [])
+    ∷ [])
 
 -- The order of the figures on sharing: it buys, with a limit of 310, on the market of the first figure, so that its range
 -- is 294 to 304.
@@ -74,59 +80,51 @@ RangeOfTheSharedOrder =
     permitted Buy (pos 310) (cube_meaning.shows (after cube_meaning (cube_start (bought_and_sold 1 2)) (leg_ticks_then (record { bid = Some (pos 293); offer = None }))))
     ≡ Ok (record { side = Buy; floor = pos 294; contra = pos 304; initiating = pos 304 })
 
--- The order to buy, of this size and with this guarantee.
-abbrev pub order_of : ℕ → GuaranteeKind → ℕ → PairedOrder
-order_of size kind price = record { side = Buy; size = size; limit = pos 310; guarantee = record { kind = kind; price = pos price } }
+-- A sealed response with own number 1: member, class, size and price.
+abbrev pub offered : ℕ → Class → ℕ → ℕ → Line
+offered member class size price = offers Sealed class 10010 member 1 size price ⇒ stored size price
 
--- A sealed response: member, class, size and price; its arrival number is its member's.
-abbrev pub response : ℕ → Class → ℕ → ℕ → Response
-response member class size price = record { member = member; own = 1; kind = Sealed; class = class; size = size; price = pos price; arrival = member }
-
--- Who got how many at which price, row by row; member 0 is the contra.
-abbrev pub got : ℕ → ℕ → ℕ → ℤ × (ℕ × ℕ)
-got price member filled = (pos price, (member, filled))
-
--- The fill list under the ranking by arrival.
-abbrev pub shared_out : PairedOrder → List Response → List (ℤ × (ℕ × ℕ))
-shared_out order stood = map (λ (f : FillRow). (f.price, (f.member, f.filled))) (fill_list (by_key earlier) order (pos 304) stood)
+-- On the market of the first figure the order opens, of this size and with this guarantee; these responses arrive, in this
+-- order; at its deadline the auction ends, and these rows are collected.
+abbrev pub SharesOut : ℕ → Guarantee → List Line → List FillRow → Type 0
+SharesOut size g responses rows =
+    Day (buys 10000 size 310 g ⇒ claim 1 ∷ responses ++ (clock 10100 ⇒ accepted ∷ collects 1 ⇒ collected (length rows) Deadline rows ∷ []))
 
 -- Stop 300, another's 60 at 298: 60, and the contra 40.
 abbrev pub BetterPriceFirstContraTheRest : Type 0
-BetterPriceFirstContraTheRest =
-    shared_out (order_of 100 SingleStop 300) (response 2 Other 60 298 ∷ []) ≡ got 298 2 60 ∷ (got 300 0 40 ∷ [])
+BetterPriceFirstContraTheRest = SharesOut 100 (stop 300) (offered 2 Other 60 298 ∷ []) (row Sealed Other 2 1 298 60 0 ∷ contra_row 300 40 ∷ [])
 
 -- Stop 300, and at 300 a customer's 30, then others' 50 and 20: 30, the contra 40, 22 and 8.
 abbrev pub CustomerThenFortyPercentThenProRata : Type 0
 CustomerThenFortyPercentThenProRata =
-    shared_out (order_of 100 SingleStop 300) (response 2 Customer 30 300 ∷ (response 3 Other 50 300 ∷ (response 4 Other 20 300 ∷ [])))
-    ≡ got 300 2 30 ∷ (got 300 0 40 ∷ (got 300 3 22 ∷ (got 300 4 8 ∷ [])))
+    SharesOut 100 (stop 300) (offered 2 Customer 30 300 ∷ offered 3 Other 50 300 ∷ offered 4 Other 20 300 ∷ [])
+    (row Sealed Customer 2 1 300 30 0 ∷ contra_row 300 40 ∷ row Sealed Other 3 1 300 22 28 ∷ row Sealed Other 4 1 300 8 12 ∷ [])
 
 -- Auto-match limit 298, 20 at 298 and 10 at 301: both filled, and the contra 20, 10 and, at 304, 40.
 abbrev pub MatchedAtEachPriceThenCleanedUp : Type 0
 MatchedAtEachPriceThenCleanedUp =
-    shared_out (order_of 100 AutoMatchLimit 298) (response 2 Other 20 298 ∷ (response 3 Other 10 301 ∷ []))
-    ≡ got 298 0 20 ∷ (got 298 2 20 ∷ (got 301 0 10 ∷ (got 301 3 10 ∷ (got 304 0 40 ∷ []))))
+    SharesOut 100 (auto_match 298) (offered 2 Other 20 298 ∷ offered 3 Other 10 301 ∷ [])
+    (contra_row 298 20 ∷ row Sealed Other 2 1 298 20 0 ∷ contra_row 301 10 ∷ row Sealed Other 3 1 301 10 0 ∷ contra_row 304 40 ∷ [])
 
 -- Auto-match limit 298, 45 at 298 and 30 at 300: 45, the contra 45, and 10.
 abbrev pub MatchedBeyondTheShareThenTheOthers : Type 0
 MatchedBeyondTheShareThenTheOthers =
-    shared_out (order_of 100 AutoMatchLimit 298) (response 2 Other 45 298 ∷ (response 3 Other 30 300 ∷ []))
-    ≡ got 298 0 45 ∷ (got 298 2 45 ∷ (got 300 3 10 ∷ []))
+    SharesOut 100 (auto_match 298) (offered 2 Other 45 298 ∷ offered 3 Other 30 300 ∷ [])
+    (contra_row 298 45 ∷ row Sealed Other 2 1 298 45 0 ∷ row Sealed Other 3 1 300 10 20 ∷ [])
 
 -- Auto-match limit 298, 30 at 298 and 40 at 300: 30 and 30, and the contra 30 and 10.
 abbrev pub CleanedUpBeforeTheInitiatingPrice : Type 0
 CleanedUpBeforeTheInitiatingPrice =
-    shared_out (order_of 100 AutoMatchLimit 298) (response 2 Other 30 298 ∷ (response 3 Other 40 300 ∷ []))
-    ≡ got 298 0 30 ∷ (got 298 2 30 ∷ (got 300 0 10 ∷ (got 300 3 30 ∷ [])))
+    SharesOut 100 (auto_match 298) (offered 2 Other 30 298 ∷ offered 3 Other 40 300 ∷ [])
+    (contra_row 298 30 ∷ row Sealed Other 2 1 298 30 0 ∷ contra_row 300 10 ∷ row Sealed Other 3 1 300 30 10 ∷ [])
 
 -- An order of 1, stop 300, another's 1 at 300: the contra gets it.
 abbrev pub AtLeastOneForTheContra : Type 0
-AtLeastOneForTheContra =
-    shared_out (order_of 1 SingleStop 300) (response 2 Other 1 300 ∷ []) ≡ got 300 0 1 ∷ (got 300 2 0 ∷ [])
+AtLeastOneForTheContra = SharesOut 1 (stop 300) (offered 2 Other 1 300 ∷ []) (contra_row 300 1 ∷ row Sealed Other 2 1 300 0 1 ∷ [])
 
 -- No response, stop 300: the contra gets all.
 abbrev pub AllForTheContra : Type 0
-AllForTheContra = shared_out (order_of 100 SingleStop 300) [] ≡ got 300 0 100 ∷ []
+AllForTheContra = SharesOut 100 (stop 300) [] (contra_row 300 100 ∷ [])
 
 -- The list.
 abbrev pub WorkedFigures : Type 0
@@ -134,6 +132,7 @@ WorkedFigures =
     LegsAt292And305Make294And304
     × DoubledRatiosImproveByTwo
     × BookAndLegsPermit402To404
+    × AutoMatchFrom402Through404
     × RangeOfTheSharedOrder
     × BetterPriceFirstContraTheRest
     × CustomerThenFortyPercentThenProRata

@@ -1,7 +1,7 @@
--- Finding a claim in a purse: the first of its numbers, and the others without it.
+-- Finding a claim in a purse: the first of its numbers, and the others without it; and putting one back to its place.
 use Rattle.std.proofs.Common.{◌≡◌, ℕ, zero, suc, ◌<◌, ◌≤◌, Bool, true, false, cond, not, ◌||◌, eqb, List, [], ◌∷◌, map, length, get_or, Some, None, sym, refl, ap, ◌∙◌, le_of_suc-le-suc, not-suc-le-zero, nat_lt, arith}
 use Rattle.std.proofs.lemmas.Bool.{and_parts, eqb-true, not-true, or_parts}
-use Rattle.std.specs.List.{position, position_or_len, remove}
+use Rattle.std.specs.List.{insert, position, position_or_len, remove}
 use Rattle.std.proofs.lemmas.Bool.Decides.{nat_tests}
 use Rattle.std.proofs.lemmas.List.Quantifiers.{position-Some}
 use Rattle.std.proofs.lemmas.List.Sums.{prefix_len_passes}
@@ -65,3 +65,17 @@ module _ {X : Type 0} (f : X → ClaimNumbers) (c : ClaimNumbers) where
   none_taken xs purse e h =
       let held : holds c purse ≡ false = ap (holds c) (sym e) ∙ none_at xs (sym h) in
       (sym (ap (λ (b : Bool). cond b (Some c) None) held), sym (without_none c purse held))
+
+-- Putting one back.
+module _ {X Y : Type 0} (f : X → Y) where
+  pub map_insert : (xs : List X) (i : ℕ) (x : X) → map f (insert xs i x) ≡ insert (map f xs) i (f x)
+  map_insert [] zero x = refl
+  map_insert [] (suc i) x = refl
+  map_insert (y ∷ ys) zero x = refl
+  map_insert (y ∷ ys) (suc i) x = ap (λ l. f y ∷ l) (map_insert ys i x)
+
+  -- what was taken out and put back is there as before
+  pub put_back : (xs : List X) (i : ℕ) (x : X) → i < length xs → x ≡ get_or xs i x → (i ≤ length (map f (remove xs i))) × (insert (map f (remove xs i)) i (f x) ≡ map f xs)
+  put_back [] i x l e = absurd (not-suc-le-zero l)
+  put_back (y ∷ ys) zero x l e = (omega arith, ap (λ z. f z ∷ map f ys) e)
+  put_back (y ∷ ys) (suc i) x l e = let rest = put_back ys i x (le_of_suc-le-suc l) e in let within = rest.0 in (omega arith, ap (λ l. f y ∷ l) rest.1)

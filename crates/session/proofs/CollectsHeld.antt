@@ -83,13 +83,13 @@ at_most_all count m x rows e = omega (arith, length-take count rows, length-take
 -- a collecting of a session
 module _ {P T F Q : Type 0} (w : World P T F Q) (s : RoomState P Q) (purse : List ClaimNumbers) (c : ClaimNumbers) (n : ℕ) where
   pub made : (x : ClaimNumbers) (m : ℕ) (after : RoomState P Q) (answer : Answer F) (left : List ClaimNumbers) → holds c purse ≡ true → x ≡ c → ltb m 129 ≡ ltb n 129
-      → after ≡ (step w s (Collect x m)).0 → answer ≡ (step w s (Collect x m)).1 → left ≡ purse_left answer x (without_claim c purse)
+      → after ≡ (step w s (Collect x m)).0 → answer ≡ (step w s (Collect x m)).1 → left ≡ purse_left answer x purse
       → (session_of after left ≡ session_after w (session_of s purse) (Collect c n)) × (Some answer ≡ session_answer w (session_of s purse) (Collect c n))
   made x m after answer left h e l room told others =
       let is : step w s (Collect x m) ≡ step w s (Collect c n) = ap (λ y. step w s (Collect y m)) e ∙ serves w s c m n l in
       let same = told ∙ ap (λ (y : RoomState P Q × Answer F). y.1) is in
-      let then : Session P Q = record { room = (step w s (Collect c n)).0; purse = purse_left (step w s (Collect c n)).1 c (without_claim c purse) } in
-      let claims : left ≡ then.purse = others ∙ ap (λ (a : Answer F). purse_left a x (without_claim c purse)) same ∙ ap (λ y. purse_left (step w s (Collect c n)).1 y (without_claim c purse)) e in (
+      let then : Session P Q = record { room = (step w s (Collect c n)).0; purse = purse_left (step w s (Collect c n)).1 c purse } in
+      let claims : left ≡ then.purse = others ∙ ap (λ (a : Answer F). purse_left a x purse) same ∙ ap (λ y. purse_left (step w s (Collect c n)).1 y purse) e in (
         session_is after left then (room ∙ ap (λ (y : RoomState P Q × Answer F). y.0) is) claims ∙ sym (ap (λ (b : Bool). cond b then (session_of s purse)) h),
         ap Some same ∙ sym (ap (λ (b : Bool). cond b (Some (step w s (Collect c n)).1) None) h),
       )
@@ -97,7 +97,7 @@ module _ {P T F Q : Type 0} (w : World P T F Q) (s : RoomState P Q) (purse : Lis
   pub not_made : (left : List ClaimNumbers) → holds c purse ≡ false → left ≡ without_claim c purse
       → (session_of s left ≡ session_after w (session_of s purse) (Collect c n)) × (None ≡ session_answer w (session_of s purse) (Collect c n))
   not_made left h others =
-      let then : Session P Q = record { room = (step w s (Collect c n)).0; purse = purse_left (step w s (Collect c n)).1 c (without_claim c purse) } in (
+      let then : Session P Q = record { room = (step w s (Collect c n)).0; purse = purse_left (step w s (Collect c n)).1 c purse } in (
         ap (session_of s) (others ∙ without_none c purse h) ∙ sym (ap (λ (b : Bool). cond b then (session_of s purse)) h),
         sym (ap (λ (b : Bool). cond b (Some (step w s (Collect c n)).1) None) h),
       )

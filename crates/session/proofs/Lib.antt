@@ -6,6 +6,8 @@ pub mod Sharing
 pub mod RunLaws
 mod Choices
 mod ClaimsHeld
+mod ClaimsKept
+mod Closing
 mod MemoryTaken
 mod CollectsHeld
 mod SessionRuns

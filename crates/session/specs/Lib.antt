@@ -6,8 +6,11 @@ pub mod Ending
 pub mod Sharing
 pub mod Laws
 pub mod Sessions
+pub mod Claims
 pub mod Purses
 pub mod Told
 pub mod Memory
 pub mod Made
 pub mod Outcomes
+pub mod Desks
+pub mod Days

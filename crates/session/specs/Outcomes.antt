@@ -1,5 +1,5 @@
 -- What a run comes to.
-use Rattle.std.specs.Prelude.{◌≡◌, List, map, vec_items}
+use Rattle.std.specs.Prelude.{◌≡◌, List, [], map, vec_items}
 use Rattle.room.specs.Rooms.{claim_numbers, state_of}
 use Rattle.room.specs.State.{new_room}
 use Rattle.room.specs.World.{World}
@@ -9,6 +9,7 @@ use Rattle.session.specs.declared.handed.Handed.{Handed}
 use Rattle.session.specs.Laws.{LawsOfRun}
 use Rattle.session.specs.Runs.{Moment, run}
 use Rattle.session.specs.Sessions.{Session, session_of, session_answers, session_end, calls_made, given}
+use Rattle.session.specs.Claims.{claims_of_room}
 use Rattle.session.specs.Told.{told}
 
 -- The room at its making, with the claims that are handed in.
@@ -27,6 +28,9 @@ module _ {M R S P T F Q : Type 0} where
     -- So are the room and the purse at the end: no claim is lost.
     pub room : state_of position source f.room ≡ (session_end w (at_first position source h) (vec_items h.calls)).room
     pub purse : map claim_numbers (vec_items f.purse) ≡ (session_end w (at_first position source h) (vec_items h.calls)).purse
+    -- Where no claim was handed in, the claims that are held at the end are those to the auctions that the room then holds, to
+    -- those that wait, the oldest first, and to the open one.
+    pub claims : vec_items h.purse ≡ [] → map claim_numbers (vec_items f.purse) ≡ claims_of_room f.room
     -- The room has the ranking that was handed in, by which it would share out what comes next.
     pub ranking : f.room.ranking ≡ h.ranking
     -- The answers to the calls that were made are those of their run from the room's making,

@@ -32,12 +32,11 @@ claim_in (Looked v) = []
 claim_in (Collected k fs) = []
 claim_in (Refused e) = []
 
--- What a collecting leaves of a purse that its claim was taken out of: a refused one hands the claim back.
+-- What a collecting leaves of a purse: an accepted one spends the claim, and a refused one hands it back, to its place.
 abbrev pub purse_left : {F : Type 0} → Answer F → ClaimNumbers → List ClaimNumbers → List ClaimNumbers
-purse_left a c others = cond (is_collected a) others (others ++ c ∷ [])
+purse_left a c purse = cond (is_collected a) (without_claim c purse) purse
 
--- The purse after a call: an opening adds the claim that it is answered; an accepted collecting spends the claim, and a
--- refused one hands it back.
+-- The purse after a call: an opening adds the claim that it is answered, behind the others.
 abbrev pub purse_after : {T F : Type 0} → Call T → Answer F → List ClaimNumbers → List ClaimNumbers
 purse_after (Open x) a purse = purse ++ claim_in a
 purse_after (Respond x) a purse = purse
@@ -48,7 +47,7 @@ purse_after (Halt t) a purse = purse
 purse_after (Resume t) a purse = purse
 purse_after (Clock t) a purse = purse
 purse_after Look a purse = purse
-purse_after (Collect c n) a purse = purse_left a c (without_claim c purse)
+purse_after (Collect c n) a purse = purse_left a c purse
 
 -- The call is made: a collecting only if its claim is held.
 abbrev pub is_made : {T : Type 0} → Call T → List ClaimNumbers → Bool

@@ -3,6 +3,7 @@
 
 pub mod answers;
 pub mod calls;
+pub mod desk;
 pub mod handed;
 pub mod laws;
 mod lists;

@@ -26,13 +26,19 @@ impl Model for RowLists {
 }
 
 impl RowLists {
+    pub(crate) fn new(heap: Global) -> RowLists
+        ensures { result ≡ 0 }
+    {
+        RowLists {
+            lists: Vec::new(heap),
+        }
+    }
+
     // One for each of the calls that collect.
     pub(crate) fn for_calls<T>(heap: Global, calls: &[Call<T>]) -> Result<RowLists, AllocError>
         ensures { IfOk result (λ kept. collectings_in calls.now ≤ kept) }
     {
-        let mut kept = RowLists {
-            lists: Vec::new(heap),
-        };
+        let mut kept = RowLists::new(heap);
         for call in calls {
             if call.is_collecting() {
                 kept.add(heap)?;
@@ -41,7 +47,7 @@ impl RowLists {
         Ok(kept)
     }
 
-    fn add(&mut self, heap: Global) -> Result<(), AllocError>
+    pub(crate) fn add(&mut self, heap: Global) -> Result<(), AllocError>
         ensures { OnOk result (self.new ≡ self.old + 1) }
     {
         let list = Vec::with_capacity(heap, LEAST_ROWS)?;

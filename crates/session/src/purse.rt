@@ -1,11 +1,14 @@
 // The purse of a session: the claims that are held, with places for those to come.
-ghost use Rattle.std.specs.Prelude.{◌≡◌, ◌+◌, ◌-◌, ◌≤◌, [], ◌∷◌, ◌++◌, map, if◌then◌else◌, Some, None as Nothing, position, vec_len, vec_capacity, MatchOption};
+ghost use Rattle.std.specs.Prelude.{◌≡◌, ◌+◌, ◌-◌, ◌≤◌, [], ◌∷◌, ◌++◌, length, map, if◌then◌else◌, Some, None as Nothing, position, vec_len, vec_capacity, MatchOption, OnOk};
+ghost use Rattle.std.specs.List.{insert};
 ghost use Rattle.std.specs.Option.{option_map};
 ghost use Rattle.room.specs.Rooms.{claim_numbers};
+ghost use Rattle.session.specs.Purses.{taken_numbers};
 ghost use Rattle.session.specs.Sessions.{same_claim, holds, without_claim};
 
 use room::answers::ClaimNumbers;
 use room::claim::Claim;
+use std::alloc::AllocError;
 use std::marker::Model;
 
 // A contract sees the numbers of the claims, and how many places are free.
@@ -21,6 +24,12 @@ impl Model for Purse {
     ghost Value = { PurseValue };
 
     ghost view = { λ p. record { numbers = map claim_numbers p.claims.items; places = vec_capacity p.claims - vec_len p.claims } };
+}
+
+// A claim that was taken out of a purse, and its place there.
+pub(crate) struct Taken {
+    pub(crate) claim: Claim,
+    pub(crate) place: usize,
 }
 
 // The place of the first claim of these numbers.
@@ -45,14 +54,36 @@ impl Purse {
         claims
     }
 
+    // A place for one claim more.
+    pub(crate) fn reserve(&mut self) -> Result<(), AllocError>
+        ensures place { OnOk result (1 ≤ self.new.places) }
+        ensures numbers { self.new.numbers ≡ self.old.numbers }
+    {
+        self.claims.try_reserve(1)
+    }
+
     // Takes out the first claim of these numbers; where there is none, the purse is as it was.
-    pub(crate) fn take(&mut self, numbers: &ClaimNumbers) -> Option<Claim>
-        ensures claim { option_map claim_numbers result ≡ (if holds numbers.now self.old.numbers then Some numbers.now else Nothing) }
+    pub(crate) fn take(&mut self, numbers: &ClaimNumbers) -> Option<Taken>
+        ensures claim { option_map taken_numbers result ≡ (if holds numbers.now self.old.numbers then Some numbers.now else Nothing) }
         ensures others { self.new.numbers ≡ without_claim numbers.now self.old.numbers }
+        ensures place { MatchOption result (self.new.numbers ≡ self.old.numbers) (λ t. (t.place ≤ length self.new.numbers) × (insert self.new.numbers t.place (taken_numbers t) ≡ self.old.numbers)) }
         ensures places { MatchOption result (self.new.places ≡ self.old.places) (λ _. self.new.places ≡ self.old.places + 1) }
     {
         let at = place_of(&self.claims, numbers)?;
-        Some(self.claims.remove(at))
+        Some(Taken {
+            claim: self.claims.remove(at),
+            place: at,
+        })
+    }
+
+    // Puts a claim at this place, before those that stand there and behind it.
+    pub(crate) fn put_at(&mut self, place: usize, claim: Claim)
+        requires within { place ≤ length self.old.numbers }
+        requires free { 1 ≤ self.old.places }
+        ensures numbers { self.new.numbers ≡ insert self.old.numbers place (claim_numbers claim) }
+        ensures places { self.new.places + 1 ≡ self.old.places }
+    {
+        self.claims.insert(place, claim).unwrap();
     }
 
     pub(crate) fn put(&mut self, claim: Claim)

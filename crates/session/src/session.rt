@@ -1,5 +1,5 @@
 // A session in code: calls on a room, with a purse of claims.
-ghost use Rattle.std.specs.Prelude.{◌≡◌, ◌+◌, ◌≤◌, [], ◌∷◌, ◌++◌, map, vec_len, vec_capacity};
+ghost use Rattle.std.specs.Prelude.{◌≡◌, ◌+◌, ◌≤◌, [], ◌∷◌, ◌++◌, map, vec_len, vec_capacity, OnOk};
 ghost use Rattle.session.specs.declared.calls.Call.TheVariants.{Open, Collect};
 ghost use Rattle.session.specs.Made.{HasMemoryFor, MadeAsModelled, session_now, session_world};
 ghost use Rattle.session.specs.Sessions.{session_answers, session_end};
@@ -8,7 +8,7 @@ ghost use Rattle.session.specs.Told.{told, told_result};
 use crate::answers::Answer;
 use crate::calls::Call;
 use crate::lists::RowLists;
-use crate::purse::Purse;
+use crate::purse::{Purse, Taken};
 use allocation::fill::{FillRow, LEAST_ROWS};
 use allocation::ranking::Ranking;
 use interval::source::IntervalSource;
@@ -17,6 +17,7 @@ use room::answers::ClaimNumbers;
 use room::refusal::Refusal;
 use room::requests::OpeningRequest;
 use room::room::Room;
+use std::alloc::{AllocError, Global};
 
 pub(crate) struct Session<M, R, S> {
     pub(crate) room: Room<M, R, S>,
@@ -25,6 +26,23 @@ pub(crate) struct Session<M, R, S> {
 }
 
 impl<M: Market, R: Ranking, S: IntervalSource> Session<M, R, S> {
+    // Takes the memory that a call can want.
+    pub(crate) fn reserve_for(
+        &mut self,
+        heap: Global,
+        call: &Call<M::Tick>,
+    ) -> Result<(), AllocError>
+        ensures memory { OnOk result (HasMemoryFor self.new (call.now ∷ [])) }
+        ensures room { self.new.room ≡ self.old.room }
+        ensures claims { self.new.purse.numbers ≡ self.old.purse.numbers }
+    {
+        self.purse.reserve()?;
+        if call.is_collecting() {
+            self.lists.add(heap)?;
+        }
+        Ok(())
+    }
+
     // Opens an auction and keeps the claim.
     fn open(&mut self, request: OpeningRequest) -> Result<Answer<M::Fault>, Refusal<M::Fault>>
         requires { HasMemoryFor {T = M.Tick} self.old (Open request ∷ []) }
@@ -36,7 +54,7 @@ impl<M: Market, R: Ranking, S: IntervalSource> Session<M, R, S> {
         Ok(Answer::Opened(numbers))
     }
 
-    // Collects with the claim of these numbers, if the purse has one; a refusal puts it back.
+    // Collects with the claim of these numbers, if the purse has one; a refusal puts it back to its place.
     fn collect(
         &mut self,
         numbers: ClaimNumbers,
@@ -45,9 +63,10 @@ impl<M: Market, R: Ranking, S: IntervalSource> Session<M, R, S> {
         requires { HasMemoryFor {T = M.Tick} self.old (Collect numbers rows ∷ []) }
         ensures { MadeAsModelled (session_world M.Market.meaning S.IntervalSource.meaning R.Ranking.ahead self.old) M.Market.position S.IntervalSource.position self.old self.new (told_result result) (Collect numbers rows) }
     {
-        let Some(claim) = self.purse.take(&numbers) else {
+        let Some(taken) = self.purse.take(&numbers) else {
             return Ok(Answer::NoClaim);
         };
+        let Taken { claim, place } = taken;
         let mut written = [FillRow::BLANK; LEAST_ROWS];
         let list = &mut written[..rows.min(LEAST_ROWS)];
         // A match: with a closure under `map_err` that puts the claim back, no proof knows what the purse then holds.
@@ -57,7 +76,7 @@ impl<M: Market, R: Ranking, S: IntervalSource> Session<M, R, S> {
                 Ok(Answer::Collected(collection, rows))
             }
             Err((refusal, claim)) => {
-                self.purse.put(claim);
+                self.purse.put_at(place, claim);
                 Err(refusal)
             }
         }
@@ -97,7 +116,7 @@ impl<M: Market, R: Ranking, S: IntervalSource> Session<M, R, S> {
     }
 
     // The same, with a refusal among the answers.
-    fn make_call(&mut self, call: Call<M::Tick>) -> Answer<M::Fault>
+    pub(crate) fn make_call(&mut self, call: Call<M::Tick>) -> Answer<M::Fault>
     where
         M::Tick: Drop,
         requires { HasMemoryFor self.old (call ∷ []) }

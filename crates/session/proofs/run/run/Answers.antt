@@ -1,12 +1,14 @@
 -- The calls are carried out on the room at its making, with a purse of the claims that were handed in and no answer yet; and
 -- the terms of the laws are those of the three interfaces.
-use Rattle.std.proofs.Common.{List, ◌++◌, map, vec_items, Option, ap, ◌∙◌}
+use Rattle.std.proofs.Common.{List, ◌++◌, map, vec_items, Option, sym, ap, ◌∙◌}
 use Rattle.room.specs.Rooms.{claim_numbers, state_of, world_of}
 use Rattle.room.specs.World.{World}
 use Rattle.session.specs.Outcomes.{at_first, made_of}
 use Rattle.session.specs.Runs.{Answer}
 use Rattle.session.specs.Sessions.{Session, session_answers, session_end, session_of}
 use Rattle.session.specs.Told.{told}
+use Rattle.session.specs.Claims.{claims_to}
+use Rattle.session.proofs.ClaimsKept.{match_at_end}
 use Rattle.session.proofs.RunLaws.{laws_of_run}
 use Rattle.session.proofs.SessionRuns.{answers_of_made, session_is}
 use Rattle.session.proofs.run.run.Goals as goal
@@ -29,6 +31,9 @@ returns g c =
           ∙ ap (λ s. session_answers w s calls) starts;
       room = ap (λ (s : Session g.M.Market.Position g.S.IntervalSource.Position). s.room) ended;
       purse = c.into_claims.ensures ∙ ap (λ (s : Session g.M.Market.Position g.S.IntervalSource.Position). s.purse) ended;
+      claims = λ none.
+          let purse = c.into_claims.ensures ∙ ap (λ (s : Session g.M.Market.Position g.S.IntervalSource.Position). s.purse) ended in
+          purse ∙ match_at_end w first calls (ap (map claim_numbers) none) ∙ sym (ap (λ (s : Session g.M.Market.Position g.S.IntervalSource.Position). claims_to s.room) ended);
       ranking = c.play.ensures.ranking ∙ c.new-room.ensures.ranking;
       of_the_run = answers_of_made w first calls;
       laws =

@@ -1,12 +1,12 @@
-use Rattle.std.proofs.Common.{None, List, ◌++◌, ◌∷◌, [], sym, refl, ap, ◌∙◌, arith, length-take}
+use Rattle.std.proofs.Common.{None, List, sym, refl, ap, ◌∙◌, arith, length-take}
+use Rattle.std.specs.List.{insert}
 use Rattle.std.proofs.lemmas.Option.{cond_some}
 use Rattle.allocation.specs.declared.fill.FillRow.{FillRow}
-use Rattle.room.specs.declared.answers.ClaimNumbers.{ClaimNumbers}
 use Rattle.room.specs.declared.claim.Claim.{Claim}
 use Rattle.room.specs.Rooms.{claim_numbers}
 use Rattle.session.specs.Made.{session_now, session_world}
 use Rattle.session.specs.Runs.{Collected}
-use Rattle.session.specs.Sessions.{holds}
+use Rattle.session.specs.Sessions.{holds, without_claim}
 use Rattle.session.proofs.Choices.{cond_some_none}
 use Rattle.session.proofs.CollectsHeld.{as_long, at_most_all, gathered, made, not_made, refused}
 use Rattle.session.proofs.session.Session.collect.Goals as goal
@@ -30,7 +30,7 @@ slice_bounds-take-end g c =
     let self = c.args.self.now in
     let w = session_world g.M.Market.meaning g.S.IntervalSource.meaning g.R.Ranking.ahead self in
     let first = session_now g.M.Market.position g.S.IntervalSource.position self in
-    let claim = c.in-Some.claim in
+    let claim = c.in-Some.taken.claim in
     let new : List FillRow = c.collect.new.rows in
     let told = gathered w first.room (claim_numbers claim) _ claim c.in-Ok.collection _ new (sym c.in-Ok.is ∙ c.collect.ensures.answer) c.collect.ensures.rows c.collect.auto.rows in
     let within = told.0 in
@@ -45,14 +45,15 @@ returns-in-Ok g c =
     let w = session_world g.M.Market.meaning g.S.IntervalSource.meaning g.R.Ranking.ahead self in
     let first = session_now g.M.Market.position g.S.IntervalSource.position self in
     let numbers = c.args.numbers in
-    let claim = c.in-Some.claim in
+    let claim = c.in-Some.taken.claim in
     let k = c.in-Ok.collection in
     let new : List FillRow = c.collect.new.rows in
     let told = gathered w first.room (claim_numbers claim) _ claim k _ new (sym c.in-Ok.is ∙ c.collect.ensures.answer) c.collect.ensures.rows c.collect.auto.rows in
     let held = cond_some (holds numbers first.purse) numbers (claim_numbers claim) (sym c.in-Some.ensures.claim) in
+    let others = c.take.ensures.others ∙ ap (λ x. without_claim x first.purse) held.1 in
     let is =
     made w first.room first.purse numbers c.args.rows (claim_numbers claim) _ _ _ c.take.new.self.numbers held.0 (sym held.1) (as_long c.args.rows c.min.result _ c.min.ensures)
-    c.collect.ensures.state (ap (λ l. Collected k l) c.take-rows.ensures.rows ∙ sym told.1) c.take.ensures.others in
+    c.collect.ensures.state (ap (λ l. Collected k l) c.take-rows.ensures.rows ∙ sym told.1) others in
     record {
       session = is.0;
       answer = is.1;
@@ -66,16 +67,16 @@ returns-in-Err g c =
     let w = session_world g.M.Market.meaning g.S.IntervalSource.meaning g.R.Ranking.ahead self in
     let first = session_now g.M.Market.position g.S.IntervalSource.position self in
     let numbers = c.args.numbers in
-    let claim = c.in-Some.claim in
+    let claim = c.in-Some.taken.claim in
     let told = refused w first.room (claim_numbers claim) _ claim c.in-Err.claim c.in-Err.refusal (sym c.in-Err.is ∙ c.collect.ensures.answer) in
     let held = cond_some (holds numbers first.purse) numbers (claim_numbers claim) (sym c.in-Some.ensures.claim) in
-    let back = c.put.ensures.numbers ∙ ap (λ (x : Claim). c.take.new.self.numbers ++ claim_numbers x ∷ []) told.1 ∙ ap (λ (l : List ClaimNumbers). l ++ claim_numbers claim ∷ []) c.take.ensures.others in
+    let back = c.put_at.ensures.numbers ∙ ap (λ (x : Claim). insert c.take.new.self.numbers c.in-Some.taken.place (claim_numbers x)) told.1 ∙ c.in-Some.ensures.place.1 in
     let is =
-    made w first.room first.purse numbers c.args.rows (claim_numbers claim) _ _ _ c.put.new.self.numbers held.0 (sym held.1) (as_long c.args.rows c.min.result _ c.min.ensures)
+    made w first.room first.purse numbers c.args.rows (claim_numbers claim) _ _ _ c.put_at.new.self.numbers held.0 (sym held.1) (as_long c.args.rows c.min.result _ c.min.ensures)
     c.collect.ensures.state (sym told.0) back in
     record {
       session = is.0;
       answer = is.1;
       ranking = c.collect.ensures.ranking;
-      memory = λ cs m. let more = c.in-Some.ensures.places in let less = c.put.ensures.places in let claims = m.claims in let lists = m.lists in record { claims = omega arith; lists = omega arith };
+      memory = λ cs m. let more = c.in-Some.ensures.places in let less = c.put_at.ensures.places in let claims = m.claims in let lists = m.lists in record { claims = omega arith; lists = omega arith };
     }

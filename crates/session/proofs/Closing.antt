@@ -1,0 +1,112 @@
+-- Closing a desk. Where no auction is open, the first of the claims to a room's auctions collects the auction that has waited
+-- longest, and the others are the claims to the rest.
+use Rattle.std.proofs.Common.{◌≡◌, ℕ, Bool, true, false, cond, not, eqb, List, [], ◌∷◌, ◌++◌, map, length, get_or, Some, None, Ok, Option, Result, sym, refl, ap, ◌∙◌, arith, Vec, vec_items, vec_len, drop}
+use Rattle.std.proofs.lemmas.Bool.Decides.{nat_tests}
+use Rattle.std.proofs.lemmas.List.{length-map}
+use Rattle.std.specs.List.{remove}
+use Rattle.room.specs.declared.answers.ClaimNumbers.{ClaimNumbers}
+use Rattle.room.specs.declared.answers.Collection.{Collection}
+use Rattle.room.specs.declared.refusal.Refusal.{Refusal}
+use Rattle.room.specs.Collecting.{collectable, collect_call, collect_rows, fill_rows, waiting_now, written}
+use Rattle.room.specs.Refusals.{refuse, unless, outcome}
+use Rattle.room.specs.State.{EndedAuction, RoomState, is_number, numbered, without_number, with_waiting}
+use Rattle.room.specs.World.{World}
+use Rattle.room.proofs.Tests.{true_false}
+use Rattle.room.specs.declared.auction.WaitingAuction.{WaitingAuction}
+use Rattle.room.specs.Rooms.{listed}
+use Rattle.session.specs.Claims.{claim_to, claims_to, number_of_open}
+use Rattle.session.specs.Desks.{first_of}
+use Rattle.session.specs.Sessions.{given}
+
+-- the first and the rest of a list
+first_is : {X : Type 0} (x y : X) (xs ys : List X) → x ∷ xs ≡ y ∷ ys → (x ≡ y) × (xs ≡ ys)
+first_is x y xs ys h = (cc, cc)
+
+none_first : {X Y : Type 0} (x : X) (xs : List X) → x ∷ xs ≡ [] → Y
+none_first x xs h = cc
+
+module _ {P T F Q : Type 0} (w : World P T F Q) (s : RoomState P Q) (c : ClaimNumbers) (cs : List ClaimNumbers) where
+  pub record FirstCollected : Type 0 where
+    pub auction : EndedAuction
+    pub rest : List EndedAuction
+    pub waiting_is : s.waiting ≡ auction ∷ rest
+    pub claim_is : c ≡ claim_to s.number auction.number
+    pub state_is : (collect_call w s c 129).0 ≡ with_waiting rest s
+    pub answer_is : (collect_call w s c 129).1 ≡ Ok (record { count = length (fill_rows w auction); cause = auction.cause })
+    pub rows_are : collect_rows w s c 129 ≡ fill_rows w auction
+    pub claims_left : cs ≡ claims_to (with_waiting rest s)
+
+  same : (n : ℕ) → eqb n n ≡ true
+  same n = grind (arith, nat_tests)
+
+  -- what a collecting finds, by the claim's room, the open auction and those that wait
+  abbrev found : Bool → Bool → Option EndedAuction → Result EndedAuction (Refusal F)
+  found here opened o = unless (refuse (not here) 42 (refuse opened 41 None)) (waiting_now o)
+
+  abbrev done : Result EndedAuction (Refusal F) → RoomState P Q × Result Collection (Refusal F)
+  done y = outcome y s (λ e. with_waiting (without_number c.auction s.waiting) s) (λ e. record { count = length (fill_rows w e); cause = e.cause })
+
+  claims_are : (es : List EndedAuction) → s.current ≡ None → s.waiting ≡ es → claims_to s ≡ map (claim_to s.number) (map (λ (e : EndedAuction). e.number) es ++ [])
+  claims_are es n e =
+      ap (λ o. map (claim_to s.number) (map (λ (e : EndedAuction). e.number) s.waiting ++ number_of_open o)) n
+      ∙ ap (λ l. map (claim_to s.number) (map (λ (e : EndedAuction). e.number) l ++ [])) e
+
+  pub first_collected : (es : List EndedAuction) → s.current ≡ None → s.waiting ≡ es → c ∷ cs ≡ claims_to s → FirstCollected
+  first_collected [] n e h = none_first c cs (h ∙ claims_are [] n e)
+  first_collected (x ∷ xs) n e h =
+      let both = first_is c (claim_to s.number x.number) cs (map (claim_to s.number) (map (λ (e : EndedAuction). e.number) xs ++ [])) (h ∙ claims_are (x ∷ xs) n e) in
+      let room = ap (λ (k : ClaimNumbers). eqb k.room s.number) both.0 ∙ same s.number in
+      let opened = ap (is_number c.auction) n in
+      let first = ap (λ (k : ClaimNumbers). eqb x.number k.auction) both.0 ∙ same x.number in
+      let waits : numbered c.auction s.waiting ≡ Some x = ap (numbered c.auction) e ∙ ap (λ (b : Bool). cond b (Some x) (numbered c.auction xs)) first in
+      let others : without_number c.auction s.waiting ≡ xs = ap (without_number c.auction) e ∙ ap (λ (b : Bool). cond b xs (x ∷ without_number c.auction xs)) first in
+      let y : collectable s c 129 ≡ Ok x =
+      ap (λ (b : Bool). found b (is_number c.auction s.current) (numbered c.auction s.waiting)) room
+      ∙ ap (λ (b : Bool). found true b (numbered c.auction s.waiting)) opened ∙ ap (found true false) waits in
+      record {
+        auction = x;
+        rest = xs;
+        waiting_is = e;
+        claim_is = both.0;
+        state_is = ap (λ r. (done r).0) y ∙ ap (λ l. with_waiting l s) others;
+        answer_is = ap (λ r. (done r).1) y;
+        rows_are = ap (written w) y;
+        claims_left = both.1 ∙ sym (ap (λ o. map (claim_to s.number) (map (λ (e : EndedAuction). e.number) xs ++ number_of_open o)) n);
+      }
+
+-- taking the first out of a list
+pub first_taken : {X Y : Type 0} (f : X → Y) (xs : List X) (x : X) → (length xs ≡ 0 → ⊥) → x ≡ get_or xs 0 x → f x ∷ map f (remove xs 0) ≡ map f xs
+first_taken f [] x h e = absurd (h refl)
+first_taken f (y ∷ ys) x h e = ap (λ z. f z ∷ map f ys) e
+
+pub some_there : {X Z : Type 0} (v : Vec X Z) (empty : Bool) → empty ≡ eqb (vec_len v) 0 → empty ≡ false → length (vec_items v) ≡ 0 → ⊥
+some_there v empty e f h = true_false (sym (ap (λ n. eqb n 0) (v.ok.0 ∙ h)) ∙ sym e ∙ f)
+
+-- Of the two that can wait, both are told, and none is left.
+both_told : {X : Type 0} (f : EndedAuction → X) (a b : Option WaitingAuction)
+    → given (first_of (map f (listed a b)) ∷ (first_of (map f (drop 1 (listed a b))) ∷ [])) ≡ map f (listed a b)
+both_told f None None = refl
+both_told f None (Some b) = refl
+both_told f (Some a) None = refl
+both_told f (Some a) (Some b) = refl
+
+pub two_told : {X : Type 0} (f : EndedAuction → X) (a b : Option WaitingAuction) (x y : Option X) → x ≡ first_of (map f (listed a b)) → y ≡ first_of (map f (drop 1 (listed a b)))
+    → given (x ∷ (y ∷ [])) ≡ map f (listed a b)
+two_told f a b x y h k = ap (λ z. given (z ∷ (y ∷ []))) h ∙ ap (λ z. given (first_of (map f (listed a b)) ∷ (z ∷ []))) k ∙ both_told f a b
+
+none_after_two : (a b : Option WaitingAuction) → drop 1 (drop 1 (listed a b)) ≡ []
+none_after_two None None = refl
+none_after_two None (Some b) = refl
+none_after_two (Some a) None = refl
+none_after_two (Some a) (Some b) = refl
+
+-- a room that two were collected in
+pub emptied : {P Q : Type 0} (a b : Option WaitingAuction) (s t u : RoomState P Q) → s.waiting ≡ listed a b → t ≡ with_waiting (drop 1 s.waiting) s → u ≡ with_waiting (drop 1 t.waiting) t → u ≡ with_waiting [] s
+emptied {P} {Q} a b s t u l h k = k ∙ ap (λ (v : RoomState P Q). with_waiting (drop 1 v.waiting) v) h ∙ ap (λ l. with_waiting l s) (ap (λ l. drop 1 (drop 1 l)) l ∙ none_after_two a b)
+
+-- A room that holds no open auction and none that waits: no claim is left.
+pub none_left : {P Q : Type 0} (s : RoomState P Q) → s.current ≡ None → s.waiting ≡ [] → claims_to s ≡ []
+none_left s n e = ap (λ o. map (claim_to s.number) (map (λ (e : EndedAuction). e.number) s.waiting ++ number_of_open o)) n ∙ ap (λ l. map (claim_to s.number) (map (λ (e : EndedAuction). e.number) l ++ [])) e
+
+pub none_of_none : {X Y Z : Type 0} (f : X → Y) (v : Vec X Z) → map f (vec_items v) ≡ [] → vec_len v ≡ 0
+none_of_none f v h = v.ok.0 ∙ sym (length-map (vec_items v) f) ∙ ap length h

@@ -1,0 +1,19 @@
+use Rattle.std.proofs.Common.{sym, ap, ◌∙◌}
+use Rattle.session.specs.Claims.{claims_of_room, claims_to}
+use Rattle.session.specs.Made.{session_now, session_world}
+use Rattle.session.specs.Sessions.{Session}
+use Rattle.session.proofs.ClaimsKept.{match_kept}
+use Rattle.session.proofs.desk.Desk.call.Goals as goal
+
+pub invariant_of-self-2 : goal.invariant_of-self-2
+invariant_of-self-2 g c =
+    let before = c.reserve_for.new.self in
+    let w = session_world g.M.Market.meaning g.S.IntervalSource.meaning g.R.Ranking.ahead before in
+    let held = c.reserve_for.ensures.claims ∙ c.args.self.now.all_held ∙ sym (ap claims_of_room c.reserve_for.ensures.room) in
+    let after = c.make_call.ensures.session in
+    record {
+      all_held =
+          ap (λ (s : Session g.M.Market.Position g.S.IntervalSource.Position). s.purse) after
+          ∙ match_kept w (session_now g.M.Market.position g.S.IntervalSource.position before) c.args.call held
+          ∙ sym (ap (λ (s : Session g.M.Market.Position g.S.IntervalSource.Position). claims_to s.room) after);
+    }

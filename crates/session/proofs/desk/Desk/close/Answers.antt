@@ -1,0 +1,34 @@
+use Rattle.std.proofs.Common.{[], refl, ap, ◌∙◌}
+use Rattle.room.specs.Rooms.{claim_numbers, state_of, world_of}
+use Rattle.room.specs.State.{RoomState, with_waiting}
+use Rattle.room.specs.World.{World}
+use Rattle.session.specs.Claims.{claims_to}
+use Rattle.session.specs.Desks.{first_of, told_of_ended, told_of_waiting}
+use Rattle.session.proofs.Closing.{two_told, emptied, none_left, none_of_none}
+use Rattle.session.proofs.desk.Desk.close.Goals as goal
+
+pub destroy_empty-requires : goal.destroy_empty-requires
+destroy_empty-requires g c =
+    let halted = state_of g.M.Market.position g.S.IntervalSource.position c.halt.new.self in
+    let none_open = ap (λ (s : RoomState g.M.Market.Position g.S.IntervalSource.Position). s.current) c.halt.ensures.state in
+    none_of_none claim_numbers c.collect_first-second.new.claims
+    (c.collect_first-second.ensures.all_held ∙ ap claims_to (emptied c.halt.new.self.first c.halt.new.self.second halted _ _ refl c.collect_first-first.ensures.state c.collect_first-second.ensures.state) ∙ none_left (with_waiting [] halted) none_open refl)
+
+pub returns-clause-told : goal.returns-clause-told
+returns-clause-told g c =
+    let at : g.row.R.Denot → World g.M.Market.Position g.row.M-Tick.Denot g.row.M-Fault.Denot g.S.IntervalSource.Position = λ r. world_of g.M.Market.meaning g.S.IntervalSource.meaning (g.R.Ranking.ahead r) in
+    let w = at c.args.self.session.room.ranking in
+    let room = c.halt.new.self in
+    let halted = state_of g.M.Market.position g.S.IntervalSource.position room in
+    let first = c.collect_first-first.ensures in
+    let second = c.collect_first-second.ensures in
+    let ranked = first.ranking ∙ c.halt.ensures.ranking in
+    let left = state_of g.M.Market.position g.S.IntervalSource.position c.collect_first-first.new.room in
+    two_told (told_of_ended w room.number) room.first room.second _ _ (first.told ∙ ap (λ r. first_of (told_of_waiting (at r) halted)) c.halt.ensures.ranking)
+    (second.told ∙ ap (λ r. first_of (told_of_waiting (at r) left)) ranked ∙ ap (λ s. first_of (told_of_waiting w s)) first.state)
+    ∙ ap (told_of_waiting w) c.halt.ensures.state
+
+pub returns-clause-state : goal.returns-clause-state
+returns-clause-state g c =
+    let halted = state_of g.M.Market.position g.S.IntervalSource.position c.halt.new.self in
+    emptied c.halt.new.self.first c.halt.new.self.second halted _ _ refl c.collect_first-first.ensures.state c.collect_first-second.ensures.state ∙ ap (with_waiting []) c.halt.ensures.state

@@ -1,0 +1,33 @@
+// Making calls at a desk.
+ghost use Rattle.std.specs.Prelude.{◌≡◌, IfOk, OnOk, OnErr};
+ghost use Rattle.room.specs.Rooms.{state_of, world_of};
+ghost use Rattle.session.specs.Desks.{desk_after, desk_answer};
+ghost use Rattle.session.specs.Told.{told};
+
+use super::Desk;
+use crate::answers::Answer;
+use crate::calls::Call;
+use allocation::ranking::Ranking;
+use interval::source::IntervalSource;
+use market::market::Market;
+use std::alloc::{AllocError, Global};
+
+impl<M: Market, R: Ranking, S: IntervalSource> Desk<M, R, S> {
+    // Makes a call. A collecting hands in the claim of its numbers, if that is one to an auction of this room. Where memory is
+    // wanting, no call was made.
+    pub fn call(
+        &mut self,
+        heap: Global,
+        call: Call<M::Tick>,
+    ) -> Result<Answer<M::Fault>, AllocError>
+    where
+        M::Tick: Drop,
+        ensures state { OnOk result (state_of M.Market.position S.IntervalSource.position self.new.session.room ≡ desk_after (world_of M.Market.meaning S.IntervalSource.meaning (R.Ranking.ahead self.old.session.room.ranking)) (state_of M.Market.position S.IntervalSource.position self.old.session.room) call) }
+        ensures answer { IfOk result (λ a. told a ≡ desk_answer (world_of M.Market.meaning S.IntervalSource.meaning (R.Ranking.ahead self.old.session.room.ranking)) (state_of M.Market.position S.IntervalSource.position self.old.session.room) call) }
+        ensures unmade { OnErr result (self.new.session.room ≡ self.old.session.room) }
+        ensures ranking { self.new.session.room.ranking ≡ self.old.session.room.ranking }
+    {
+        self.session.reserve_for(heap, &call)?;
+        Ok(self.session.make_call(call))
+    }
+}
