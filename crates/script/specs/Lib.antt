@@ -6,3 +6,5 @@ pub mod Numbers
 pub mod Readers
 pub mod Parts
 pub mod Grammar
+pub mod SettingRefusals
+pub mod Setups

@@ -5,5 +5,6 @@ pub mod chosen;
 pub mod misread;
 mod number;
 pub mod read;
+pub mod setup;
 pub mod statement;
 mod words;
