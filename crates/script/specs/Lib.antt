@@ -8,3 +8,4 @@ pub mod Parts
 pub mod Grammar
 pub mod SettingRefusals
 pub mod Setups
+pub mod Texts

@@ -7,4 +7,5 @@ mod number;
 pub mod read;
 pub mod setup;
 pub mod statement;
+pub mod transcript;
 mod words;
