@@ -1,9 +1,14 @@
 -- A ranking and an interval source that are chosen while the program runs mean what the chosen one means.
-use Rattle.std.specs.Prelude.{ℕ, Bool}
+use Rattle.std.specs.Prelude.{ℕ, Bool, Result, Ok}
 use Rattle.allocation.specs.declared.response.Key.{Key}
 use Rattle.allocation.specs.Rankings.{earlier, larger}
+use Rattle.interval.specs.declared.refusal.IntervalRefusal.{IntervalRefusal}
+use Rattle.interval.specs.Fixed.{fixed_made}
 use Rattle.interval.specs.Source.{SourceMeaning}
 use Rattle.interval.specs.Stepping.{stepped, drawn}
+use Rattle.room.specs.Refusals.{seen_as}
+use Rattle.script.specs.declared.statement.IntervalTerms.{IntervalTerms}
+use Rattle.script.specs.declared.statement.IntervalTerms.TheVariants as terms
 use Rattle.script.specs.declared.chosen.ChosenInterval.{ChosenInterval}
 use Rattle.script.specs.declared.chosen.ChosenInterval.TheVariants.{Fixed, Drawn}
 use Rattle.script.specs.declared.chosen.ChosenRanking.{ChosenRanking}
@@ -26,3 +31,13 @@ chosen_next (Drawn s) = Drawn (record { seed = stepped s.seed })
 
 abbrev pub chosen_meaning : SourceMeaning ChosenInterval
 chosen_meaning = record { draws = chosen_draws; next = chosen_next }
+
+-- The terms of an interval source.
+abbrev pub interval_terms : ChosenInterval → IntervalTerms
+interval_terms (Fixed s) = terms.Fixed s.length
+interval_terms (Drawn s) = terms.Drawn s.seed
+
+-- An interval source of these terms: refusal 8 for a fixed length outside 100 to 1,000.
+abbrev pub interval_made : IntervalTerms → Result IntervalTerms IntervalRefusal
+interval_made (terms.Fixed n) = seen_as (fixed_made n) terms.Fixed
+interval_made (terms.Drawn n) = Ok (terms.Drawn n)

@@ -6,3 +6,6 @@ pub mod Numbers
 pub mod Readers
 pub mod Parts
 pub mod Grammar
+pub mod SettingRefusals
+pub mod Setups
+pub mod Texts

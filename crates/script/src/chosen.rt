@@ -1,14 +1,17 @@
 // A ranking and an interval source that are chosen while the program runs. Each is one of those that are built, so a room over
 // them needs no code of its own.
 ghost use Rattle.std.specs.Prelude.{◌≡◌};
-ghost use Rattle.script.specs.Chosen.{chosen_ahead, chosen_meaning};
+ghost use Rattle.room.specs.Refusals.{seen_as};
+ghost use Rattle.script.specs.Chosen.{chosen_ahead, chosen_meaning, interval_terms, interval_made};
 ghost use Rattle.script.specs.declared.chosen.ChosenInterval.{ChosenInterval};
 ghost use Rattle.std.proofs.Common.{rules, arith};
 
+use crate::statement::IntervalTerms;
 use allocation::ranking::Ranking;
 use allocation::rankings::{EarlierArrival, LargerSize};
 use allocation::response::Key;
 use interval::fixed::FixedInterval;
+use interval::refusal::IntervalRefusal;
 use interval::source::IntervalSource;
 use interval::stepping::SteppingInterval;
 
@@ -41,6 +44,20 @@ impl Ranking for ChosenRanking {
 pub enum ChosenInterval {
     Fixed(FixedInterval),
     Drawn(SteppingInterval),
+}
+
+impl ChosenInterval {
+    // The source of these terms. A fixed length outside its limits is refused.
+    pub fn new(terms: IntervalTerms) -> Result<ChosenInterval, IntervalRefusal>
+        ensures { seen_as result interval_terms ≡ interval_made terms }
+    {
+        match terms {
+            IntervalTerms::Fixed { milliseconds } => {
+                Ok(ChosenInterval::Fixed(FixedInterval::new(milliseconds)?))
+            }
+            IntervalTerms::Drawn { seed } => Ok(ChosenInterval::Drawn(SteppingInterval::new(seed))),
+        }
+    }
 }
 
 impl IntervalSource for ChosenInterval {

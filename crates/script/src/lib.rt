@@ -5,5 +5,7 @@ pub mod chosen;
 pub mod misread;
 mod number;
 pub mod read;
+pub mod setup;
 pub mod statement;
+pub mod transcript;
 mod words;

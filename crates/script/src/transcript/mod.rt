@@ -1,0 +1,3 @@
+// The text of what a statement is answered.
+pub mod answers;
+pub mod rows;
