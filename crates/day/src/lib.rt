@@ -1,0 +1,6 @@
+// A day carried out: from the text of its script to the text of its transcript.
+#![tactic(auto)]
+
+pub mod lines;
+pub mod outcome;
+pub mod transcript;
