@@ -8,4 +8,6 @@ pub mod Parts
 pub mod Grammar
 pub mod SettingRefusals
 pub mod Setups
+pub mod Ranges
 pub mod Texts
+pub mod Replies
