@@ -11,3 +11,4 @@ pub mod Setups
 pub mod Ranges
 pub mod Texts
 pub mod Replies
+pub mod Shown

@@ -2,10 +2,12 @@
 #![tactic(auto)]
 
 pub mod chosen;
+pub mod explain;
 pub mod misread;
 mod number;
 pub mod read;
 pub mod setup;
+pub mod shown;
 pub mod statement;
 pub mod transcript;
 mod words;
