@@ -66,7 +66,7 @@ impl Lines {
         }
         Ok(Lines {
             lines,
-            room: setup.made(),
+            room: setup.room().ok(),
         })
     }
 }

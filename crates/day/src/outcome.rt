@@ -39,6 +39,14 @@ pub fn carry_out(
             answers,
             closed: desk.close(),
         }),
-        Err(Day { .. }) => Err(AllocError),
+        Err(
+            Day {
+                number: _,
+                market: _,
+                ranking: _,
+                source: _,
+                calls: _,
+            },
+        ) => Err(AllocError),
     }
 }
