@@ -1,5 +1,5 @@
 // The transcript of a script: the text of its answers.
-use crate::lines::{Line, Lines, Said};
+use crate::lines::{Line, Said, Script};
 use crate::outcome::{Outcome, carry_out};
 use market::better_of::Half;
 use market::cube::{CubeFault, CubeMarket, CubeTick, cube_market};
@@ -167,7 +167,7 @@ pub fn transcript_of(
     script: &str,
     member: Option<u8>,
 ) -> Result<Transcript, AllocError> {
-    let Lines { lines, room } = Lines::read(heap, script)?;
+    let Script { lines, room } = Script::read(heap, script)?;
     let understood = lines.iter().all(is_understood);
     let mut text = String::new(heap);
     match room {
