@@ -1,2 +1,5 @@
--- What the lines of a script say, a file a topic.
+-- What a day's script says and comes to, a file a topic.
 pub mod Lines
+pub mod Calls
+pub mod CarriedOut
+pub mod ForMember

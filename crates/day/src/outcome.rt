@@ -1,4 +1,7 @@
 // The calls of a script, carried out.
+ghost use Rattle.std.specs.Prelude.{IfOk};
+ghost use Rattle.day.specs.CarriedOut.{CarriedOut};
+
 use market::cube::{CubeFault, CubeMarket, CubeTick, cube_market};
 use script::chosen::{ChosenInterval, ChosenRanking};
 use script::setup::RoomTerms;
@@ -20,7 +23,9 @@ pub fn carry_out(
     heap: Global,
     terms: RoomTerms,
     calls: Vec<Call<CubeTick>>,
-) -> Result<Outcome, AllocError> {
+) -> Result<Outcome, AllocError>
+    ensures { IfOk result (λ o. CarriedOut terms calls.items o) }
+{
     let RoomTerms {
         number,
         legs,

@@ -1,0 +1,2 @@
+-- What a member may see of a transcript.
+use Rattle.std.specs.Prelude.{ℕ, List, [], ◌∷◌, ◌++◌, codes, Some, None, Option}
