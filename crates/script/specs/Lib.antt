@@ -12,3 +12,4 @@ pub mod Ranges
 pub mod Texts
 pub mod Replies
 pub mod Shown
+pub mod Writing
