@@ -13,3 +13,4 @@ pub mod Texts
 pub mod Replies
 pub mod Shown
 pub mod Writing
+pub mod Held

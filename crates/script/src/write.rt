@@ -1,5 +1,8 @@
 // Writing statements: each as the line that says it.
-ghost use Rattle.std.specs.Prelude.{◌≡◌, Some};
+ghost use Rattle.std.specs.Prelude.{◌≡◌, Some, Ok};
+ghost use Rattle.script.specs.declared.statement.Statement.{Statement};
+ghost use Rattle.script.specs.Grammar.{statement_in};
+ghost use Rattle.script.specs.Held.{Held};
 ghost use Rattle.script.specs.Writing.{spaced, ranking_name, guarantee_name, book_price_word, interval_words, setting_words, tick_words, opening_words, response_words, call_words, statement_text};
 
 use crate::chosen::ChosenRanking;
@@ -209,3 +212,8 @@ impl fmt::Display for Statement {
         }
     }
 }
+
+// Each statement, written and read, is the statement again. It computes nothing.
+pub fn statements_read_again()
+    ensures { (s : Statement) → Held s → statement_in (statement_text s) ≡ Ok (Some s) }
+{}
