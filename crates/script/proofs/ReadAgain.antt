@@ -24,9 +24,9 @@ use Rattle.script.specs.declared.chosen.ChosenRanking.TheVariants.{Arrival, Size
 use Rattle.script.specs.declared.misread.Expected.{Expected}
 use Rattle.script.specs.declared.misread.Expected.TheVariants as expected
 use Rattle.script.specs.declared.misread.Misread.{Misread}
-use Rattle.script.specs.declared.read.parts.HalfName.TheVariants as half
-use Rattle.script.specs.declared.read.parts.SourceName.TheVariants as source
-use Rattle.script.specs.declared.read.parts.SourceName.{SourceName}
+use Rattle.script.specs.declared.read.named.HalfName.TheVariants as half
+use Rattle.script.specs.declared.read.named.SourceName.TheVariants as source
+use Rattle.script.specs.declared.read.named.SourceName.{SourceName}
 use Rattle.script.specs.declared.statement.CallStatement.TheVariants as call
 use Rattle.script.specs.declared.statement.IntervalTerms.{IntervalTerms}
 use Rattle.script.specs.declared.statement.IntervalTerms.TheVariants.{Fixed, Drawn}
