@@ -2,3 +2,6 @@
 mod Pieces
 mod Cuts
 mod Capped
+mod Spaced
+mod NumbersAgain
+mod ReadAgain

@@ -9,10 +9,10 @@ use Rattle.market.specs.declared.quote.Quote.{Quote}
 use Rattle.script.specs.declared.misread.Expected.TheVariants as expected
 use Rattle.script.specs.declared.misread.Misread.{Misread}
 use Rattle.script.specs.declared.misread.Misread.TheVariants.{Unknown, Surplus}
-use Rattle.script.specs.declared.read.parts.HalfName.TheVariants as half
-use Rattle.script.specs.declared.read.parts.HalfName.{HalfName}
-use Rattle.script.specs.declared.read.parts.SourceName.TheVariants as source
-use Rattle.script.specs.declared.read.parts.SourceName.{SourceName}
+use Rattle.script.specs.declared.read.named.HalfName.TheVariants as half
+use Rattle.script.specs.declared.read.named.HalfName.{HalfName}
+use Rattle.script.specs.declared.read.named.SourceName.TheVariants as source
+use Rattle.script.specs.declared.read.named.SourceName.{SourceName}
 use Rattle.script.specs.declared.statement.CallStatement.TheVariants as call
 use Rattle.script.specs.declared.statement.IntervalTerms.TheVariants as terms
 use Rattle.script.specs.declared.statement.IntervalTerms.{IntervalTerms}

@@ -12,3 +12,5 @@ pub mod Ranges
 pub mod Texts
 pub mod Replies
 pub mod Shown
+pub mod Writing
+pub mod Held

@@ -14,10 +14,10 @@ use Rattle.script.specs.Numbers.{price_in}
 use Rattle.script.specs.Readers.{Word}
 use Rattle.script.specs.declared.chosen.ChosenRanking.{ChosenRanking}
 use Rattle.script.specs.declared.chosen.ChosenRanking.TheVariants.{Arrival, Size}
-use Rattle.script.specs.declared.read.parts.HalfName.{HalfName}
-use Rattle.script.specs.declared.read.parts.HalfName.TheVariants.{Book, Leg}
-use Rattle.script.specs.declared.read.parts.SourceName.{SourceName}
-use Rattle.script.specs.declared.read.parts.SourceName.TheVariants.{Fixed, Drawn}
+use Rattle.script.specs.declared.read.named.HalfName.{HalfName}
+use Rattle.script.specs.declared.read.named.HalfName.TheVariants.{Book, Leg}
+use Rattle.script.specs.declared.read.named.SourceName.{SourceName}
+use Rattle.script.specs.declared.read.named.SourceName.TheVariants.{Fixed, Drawn}
 
 -- Either of two words.
 abbrev pub either : {X : Type 0} → List ℕ → X → List ℕ → X → Word → Option X

@@ -3,6 +3,7 @@ ghost use Rattle.std.specs.Prelude.{◌≡◌};
 ghost use Rattle.script.specs.Statements.{call_of};
 
 use crate::chosen::ChosenRanking;
+use market::better_of::Half;
 use market::cube::CubeTick;
 use market::legs::leg::LegTerms;
 use market::side::Side;
@@ -56,8 +57,45 @@ pub struct RangeQuestion {
     pub limit: i64,
 }
 
+// A tick once more: a room takes the tick that it is handed.
+fn same_tick(tick: &CubeTick) -> CubeTick
+    ensures { result ≡ tick.now }
+{
+    match tick {
+        Half::Left(quote) => Half::Left(*quote),
+        Half::Right(tick) => Half::Right(*tick),
+    }
+}
+
 impl CallStatement {
     // The call on the room of this number.
+    pub fn to_call(&self, room: u32) -> Call<CubeTick>
+        ensures { result ≡ call_of room self.now }
+    {
+        match self {
+            CallStatement::Open(request) => Call::Open(*request),
+            CallStatement::Respond(request) => Call::Respond(*request),
+            CallStatement::Change(request) => Call::Change(*request),
+            CallStatement::Withdraw(request) => Call::Withdraw(*request),
+            CallStatement::Tick { time, tick } => Call::Tick {
+                time: *time,
+                tick: same_tick(tick),
+            },
+            CallStatement::Halt { time } => Call::Halt { time: *time },
+            CallStatement::Resume { time } => Call::Resume { time: *time },
+            CallStatement::Clock { time } => Call::Clock { time: *time },
+            CallStatement::Look => Call::Look,
+            CallStatement::Collect { auction, rows } => Call::Collect {
+                claim: ClaimNumbers {
+                    room,
+                    auction: *auction,
+                },
+                rows: *rows,
+            },
+        }
+    }
+
+    // The same, of a statement that is used up.
     pub fn into_call(self, room: u32) -> Call<CubeTick>
         ensures { result ≡ call_of room self }
     {

@@ -4,16 +4,18 @@ ghost use Rattle.script.specs.Readers.{with_rest, a_number};
 ghost use Rattle.script.specs.declared.misread.Expected.TheVariants as expected;
 ghost use Rattle.script.specs.Grammar.{tick_of, tick, open_auction, respond, change, withdraw, halt, resume, clock, collect};
 
-use super::parts::HalfName;
+use super::named::HalfName;
 use crate::misread::{Expected, Misread};
 use crate::statement::{CallStatement, Statement};
 use crate::words::Words;
 use allocation::fill::LEAST_ROWS;
-use allocation::order::{Guarantee, PairedOrder};
+use allocation::order::{Guarantee, GuaranteeKind, PairedOrder};
+use allocation::response::{Class, Kind};
 use market::better_of::Half;
 use market::cube::CubeTick;
 use market::legs::leg::{LegQuote, LegTick};
 use market::quote::Quote;
+use market::side::Side;
 use room::requests::{ChangeRequest, OpeningRequest, ResponseRequest, WithdrawRequest};
 
 impl<'a> Words<'a> {
@@ -47,7 +49,7 @@ impl<'a> Words<'a> {
         ensures { with_rest result self.new ≡ tick self.old }
     {
         let time = self.time()?;
-        let half = self.half_name()?;
+        let half: HalfName = self.one_of(Expected::Half)?;
         let tick = self.tick_of(half)?;
         Ok(Statement::Call(CallStatement::Tick { time, tick }))
     }
@@ -58,11 +60,11 @@ impl<'a> Words<'a> {
     {
         let time = self.time()?;
         let member = self.u8(Expected::Member)?;
-        let side = self.side()?;
+        let side: Side = self.one_of(Expected::Side)?;
         let size = self.u32(Expected::Size)?;
         self.at()?;
         let limit = self.price(Expected::Limit)?;
-        let kind = self.guarantee_kind()?;
+        let kind: GuaranteeKind = self.one_of(Expected::Guarantee)?;
         let price = self.price(Expected::Price)?;
         let guarantee = Guarantee { kind, price };
         let order = PairedOrder {
@@ -85,9 +87,9 @@ impl<'a> Words<'a> {
         let time = self.time()?;
         let member = self.u8(Expected::Member)?;
         let own = self.u8(Expected::OwnNumber)?;
-        let side = self.side()?;
-        let kind = self.kind()?;
-        let class = self.class()?;
+        let side: Side = self.one_of(Expected::Side)?;
+        let kind: Kind = self.one_of(Expected::Kind)?;
+        let class: Class = self.one_of(Expected::Class)?;
         let size = self.u32(Expected::Size)?;
         self.at()?;
         let price = self.price(Expected::Price)?;

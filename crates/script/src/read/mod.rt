@@ -6,8 +6,10 @@ ghost use Rattle.script.specs.Grammar.{range, statement_after, statement_in};
 use crate::misread::{Expected, Misread};
 use crate::statement::{CallStatement, RangeQuestion, Statement};
 use crate::words::Words;
+use market::side::Side;
 
 mod calls;
+mod named;
 mod parts;
 mod settings;
 
@@ -16,7 +18,7 @@ impl<'a> Words<'a> {
     fn range(&mut self) -> Result<Statement, Misread>
         ensures { with_rest result self.new ≡ range self.old }
     {
-        let side = self.side()?;
+        let side: Side = self.one_of(Expected::Side)?;
         let limit = self.price(Expected::Limit)?;
         Ok(Statement::Range(RangeQuestion { side, limit }))
     }

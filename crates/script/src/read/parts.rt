@@ -1,100 +1,13 @@
 // The parts of statements: numbers, prices, and words that are one of a few.
 ghost use Rattle.std.specs.Prelude.{◌≡◌, ◌≤◌, IfOk};
 ghost use Rattle.script.specs.Readers.{read_as, with_rest, a_word, number_told, number_up_to, a_number, optional_number, a_price, one_of};
-ghost use Rattle.script.specs.Parts.{side_named, ranking_named, source_named, half_named, guarantee_named, kind_named, class_named, at_named, book_price_named};
+ghost use Rattle.script.specs.Parts.{at_named, book_price_named};
 ghost use Rattle.script.specs.declared.misread.Expected.TheVariants as expected;
 
-use crate::chosen::ChosenRanking;
+use super::named::Named;
 use crate::misread::{Expected, Misread};
 use crate::number::{number_in, price_in};
 use crate::words::Words;
-use allocation::order::GuaranteeKind;
-use allocation::response::{Class, Kind};
-use market::side::Side;
-
-// Which half of the market a tick is for.
-#[derive(Clone, Copy)]
-pub(crate) enum HalfName {
-    Book,
-    Leg,
-}
-
-// Which kind of interval source is asked for.
-#[derive(Clone, Copy)]
-pub(crate) enum SourceName {
-    Fixed,
-    Drawn,
-}
-
-fn side_named(word: &str) -> Option<Side>
-    ensures { result ≡ side_named word.now }
-{
-    match word {
-        "buy" => Some(Side::Buy),
-        "sell" => Some(Side::Sell),
-        _ => None,
-    }
-}
-
-fn ranking_named(word: &str) -> Option<ChosenRanking>
-    ensures { result ≡ ranking_named word.now }
-{
-    match word {
-        "arrival" => Some(ChosenRanking::Arrival),
-        "size" => Some(ChosenRanking::Size),
-        _ => None,
-    }
-}
-
-fn source_named(word: &str) -> Option<SourceName>
-    ensures { result ≡ source_named word.now }
-{
-    match word {
-        "fixed" => Some(SourceName::Fixed),
-        "drawn" => Some(SourceName::Drawn),
-        _ => None,
-    }
-}
-
-fn half_named(word: &str) -> Option<HalfName>
-    ensures { result ≡ half_named word.now }
-{
-    match word {
-        "leg" => Some(HalfName::Leg),
-        "book" => Some(HalfName::Book),
-        _ => None,
-    }
-}
-
-fn guarantee_named(word: &str) -> Option<GuaranteeKind>
-    ensures { result ≡ guarantee_named word.now }
-{
-    match word {
-        "stop" => Some(GuaranteeKind::SingleStop),
-        "match" => Some(GuaranteeKind::AutoMatchLimit),
-        _ => None,
-    }
-}
-
-fn kind_named(word: &str) -> Option<Kind>
-    ensures { result ≡ kind_named word.now }
-{
-    match word {
-        "sealed" => Some(Kind::Sealed),
-        "plain" => Some(Kind::Plain),
-        _ => None,
-    }
-}
-
-fn class_named(word: &str) -> Option<Class>
-    ensures { result ≡ class_named word.now }
-{
-    match word {
-        "customer" => Some(Class::Customer),
-        "other" => Some(Class::Other),
-        _ => None,
-    }
-}
 
 // A price of the book, which may be none.
 fn book_price_named(word: &str) -> Option<Option<i64>>
@@ -160,6 +73,13 @@ impl<'a> Words<'a> {
         }
     }
 
+    // One of a few words, by what it stands for.
+    pub(crate) fn one_of<T: Named>(&mut self, what: Expected) -> Result<T, Misread>
+        ensures { with_rest result self.new ≡ one_of T.stands_for what self.old }
+    {
+        T::named(self.word(what)?).ok_or(Misread::Unknown(what))
+    }
+
     pub(crate) fn price(&mut self, what: Expected) -> Result<i64, Misread>
         ensures { with_rest result self.new ≡ a_price what self.old }
     {
@@ -180,49 +100,5 @@ impl<'a> Words<'a> {
             "@" => Ok(()),
             _ => Err(Misread::Unknown(Expected::At)),
         }
-    }
-
-    pub(crate) fn side(&mut self) -> Result<Side, Misread>
-        ensures { with_rest result self.new ≡ one_of side_named expected.Side self.old }
-    {
-        side_named(self.word(Expected::Side)?).ok_or(Misread::Unknown(Expected::Side))
-    }
-
-    pub(crate) fn ranking_name(&mut self) -> Result<ChosenRanking, Misread>
-        ensures { with_rest result self.new ≡ one_of ranking_named expected.Ranking self.old }
-    {
-        ranking_named(self.word(Expected::Ranking)?).ok_or(Misread::Unknown(Expected::Ranking))
-    }
-
-    pub(crate) fn source_name(&mut self) -> Result<SourceName, Misread>
-        ensures { with_rest result self.new ≡ one_of source_named expected.Interval self.old }
-    {
-        source_named(self.word(Expected::Interval)?).ok_or(Misread::Unknown(Expected::Interval))
-    }
-
-    pub(crate) fn half_name(&mut self) -> Result<HalfName, Misread>
-        ensures { with_rest result self.new ≡ one_of half_named expected.Half self.old }
-    {
-        half_named(self.word(Expected::Half)?).ok_or(Misread::Unknown(Expected::Half))
-    }
-
-    pub(crate) fn guarantee_kind(&mut self) -> Result<GuaranteeKind, Misread>
-        ensures { with_rest result self.new ≡ one_of guarantee_named expected.Guarantee self.old }
-    {
-        guarantee_named(self.word(Expected::Guarantee)?).ok_or(Misread::Unknown(
-            Expected::Guarantee,
-        ))
-    }
-
-    pub(crate) fn kind(&mut self) -> Result<Kind, Misread>
-        ensures { with_rest result self.new ≡ one_of kind_named expected.Kind self.old }
-    {
-        kind_named(self.word(Expected::Kind)?).ok_or(Misread::Unknown(Expected::Kind))
-    }
-
-    pub(crate) fn class(&mut self) -> Result<Class, Misread>
-        ensures { with_rest result self.new ≡ one_of class_named expected.Class self.old }
-    {
-        class_named(self.word(Expected::Class)?).ok_or(Misread::Unknown(Expected::Class))
     }
 }

@@ -3,11 +3,13 @@ ghost use Rattle.std.specs.Prelude.{◌≡◌};
 ghost use Rattle.script.specs.Readers.{with_rest};
 ghost use Rattle.script.specs.Grammar.{room, leg, ranking, interval, interval_of};
 
-use super::parts::SourceName;
+use super::named::SourceName;
+use crate::chosen::ChosenRanking;
 use crate::misread::{Expected, Misread};
 use crate::statement::{IntervalTerms, Setting, Statement};
 use crate::words::Words;
 use market::legs::leg::LegTerms;
+use market::side::Side;
 
 impl<'a> Words<'a> {
     #[tactic(auto, unfolding(crate::specs::Grammar::room))]
@@ -22,7 +24,7 @@ impl<'a> Words<'a> {
     pub(crate) fn leg(&mut self) -> Result<Statement, Misread>
         ensures { with_rest result self.new ≡ leg self.old }
     {
-        let side = self.side()?;
+        let side: Side = self.one_of(Expected::Side)?;
         let ratio = self.u8(Expected::Ratio)?;
         Ok(Statement::Setting(Setting::Leg(LegTerms { side, ratio })))
     }
@@ -31,7 +33,7 @@ impl<'a> Words<'a> {
     pub(crate) fn ranking(&mut self) -> Result<Statement, Misread>
         ensures { with_rest result self.new ≡ ranking self.old }
     {
-        let ranking = self.ranking_name()?;
+        let ranking: ChosenRanking = self.one_of(Expected::Ranking)?;
         Ok(Statement::Setting(Setting::Ranking(ranking)))
     }
 
@@ -54,7 +56,7 @@ impl<'a> Words<'a> {
     pub(crate) fn interval(&mut self) -> Result<Statement, Misread>
         ensures { with_rest result self.new ≡ interval self.old }
     {
-        let name = self.source_name()?;
+        let name: SourceName = self.one_of(Expected::Interval)?;
         let terms = self.interval_of(name)?;
         Ok(Statement::Setting(Setting::Interval(terms)))
     }
