@@ -27,7 +27,7 @@ use Rattle.allocation.proofs.RowLists.{kept_append, kept_none, sum_append, all_b
 use Rattle.allocation.proofs.SplitFacts.{Reached, SplitLaws, split_laws}
 
 -- Nothing is left, or the contra's own price is still to come.
-abbrev Ends : ℤ → ℕ → List Level → Type 0
+abbrev pub Ends : ℤ → ℕ → List Level → Type 0
 Ends own r ls = (r ≡ 0) ⊎ Among own ls
 
 above_among : (z own : ℤ) (ls : List Level) → AllByRecursion (λ (k : Level). z <ℤ k.price) ls → Among own ls → z <ℤ own
@@ -35,7 +35,7 @@ above_among z own [] a i = absurd i
 above_among z own (l ∷ ls) (h, a) (inl e) = subst (λ (x : ℤ). z <ℤ x) e h
 above_among z own (l ∷ ls) (h, a) (inr i) = above_among z own ls a i
 
-reached : (own : ℤ) (r : ℕ) (l : Level) (ls : List Level) → Ends own r (l ∷ ls) → Ascending (l ∷ ls) → Reached own l.price r
+pub reached : (own : ℤ) (r : ℕ) (l : Level) (ls : List Level) → Ends own r (l ∷ ls) → Ascending (l ∷ ls) → Reached own l.price r
 reached own r l ls (inl e) up = inl e
 reached own r l ls (inr (inl e)) up = inr (grind (arith, ints))
 reached own r l ls (inr (inr i)) up = let h : l.price <ℤ own = above_among l.price own ls up.0 i in inr (grind (arith, ints))
@@ -47,23 +47,23 @@ ends_next own r k l ls at (inr (inr i)) = inr i
 
 module _ (side : Side) (t : ContraTerms) (floor : ℤ) (low : floor ≤ℤ contra_level t.guarantee.kind t) (high : t.guarantee.price ≤ℤ t.initiating) where
   -- the contra's own price
-  abbrev own : ℤ
+  abbrev pub own : ℤ
   own = contra_level t.guarantee.kind t
 
-  abbrev Standing : List Level → Type 0
+  abbrev pub Standing : List Level → Type 0
   Standing ls = AllByRecursion (Stands floor t.initiating) (flat ls)
 
   -- the rows of the first level, and those of the later levels
-  abbrev first : Level → ℕ → ℕ → List FillRow
+  abbrev pub first : Level → ℕ → ℕ → List FillRow
   first l r m = level_rows side l (split_at t l r m)
 
-  abbrev later : Level → List Level → ℕ → ℕ → List FillRow
+  abbrev pub later : Level → List Level → ℕ → ℕ → List FillRow
   later l ls r m = fills side t ls (r - taken (split_at t l r m)) (m + (split_at t l r m).contra)
 
-  level_split : (l : Level) (r m : ℕ) → SplitLaws own l.price r (total (sizes l.customers)) (total (sizes l.others)) (split_at t l r m)
+  pub level_split : (l : Level) (r m : ℕ) → SplitLaws own l.price r (total (sizes l.customers)) (total (sizes l.others)) (split_at t l r m)
   level_split l r m = split_laws t l.price r m (total (sizes l.customers)) (total (sizes l.others)) high
 
-  first_laws : (l : Level) (ls : List Level) (r m : ℕ) → Holds l → Standing (l ∷ ls) → LevelLaws side own floor t.initiating l r (split_at t l r m) (first l r m)
+  pub first_laws : (l : Level) (ls : List Level) (r m : ℕ) → Holds l → Standing (l ∷ ls) → LevelLaws side own floor t.initiating l r (split_at t l r m) (first l r m)
   first_laws l ls r m holds st =
       let S : Response → Type 0 = Stands floor t.initiating in
       level_laws side t floor l r m holds
@@ -71,12 +71,12 @@ module _ (side : Side) (t : ContraTerms) (floor : ℤ) (low : floor ≤ℤ contr
       (all_left S l.others (flat ls) (all_right S l.customers (l.others ++ flat ls) st))
       low high
 
-  later_stand : (l : Level) (ls : List Level) → Standing (l ∷ ls) → Standing ls
+  pub later_stand : (l : Level) (ls : List Level) → Standing (l ∷ ls) → Standing ls
   later_stand l ls st =
       let S : Response → Type 0 = Stands floor t.initiating in
       all_right S l.others (flat ls) (all_right S l.customers (l.others ++ flat ls) st)
 
-  later_ends : (l : Level) (ls : List Level) (r m : ℕ) → Ends own r (l ∷ ls) → Ends own (r - taken (split_at t l r m)) ls
+  pub later_ends : (l : Level) (ls : List Level) (r m : ℕ) → Ends own r (l ∷ ls) → Ends own (r - taken (split_at t l r m)) ls
   later_ends l ls r m ends = ends_next own r (taken (split_at t l r m)) l ls (level_split l r m).at_own ends
 
   pub fills_told : (ls : List Level) (r m : ℕ) → AllByRecursion Holds ls → Standing ls → map row_told (kept of_response (fills side t ls r m)) ≡ map (response_told side) (flat ls)
@@ -119,11 +119,11 @@ module _ (side : Side) (t : ContraTerms) (floor : ℤ) (low : floor ≤ℤ contr
       (fills_in_range ls (r - taken (split_at t l r m)) (m + (split_at t l r m).contra) holds up.1 (later_stand l ls st) (later_ends l ls r m ends))
 
   -- with nothing left no row trades
-  fills_none : (ls : List Level) (r m : ℕ) → AllByRecursion Holds ls → Standing ls → r ≡ 0 → AllByRecursion (λ (f : FillRow). f.filled ≡ 0) (fills side t ls r m)
+  pub fills_none : (ls : List Level) (r m : ℕ) → AllByRecursion Holds ls → Standing ls → r ≡ 0 → AllByRecursion (λ (f : FillRow). f.filled ≡ 0) (fills side t ls r m)
   fills_none ls r m holds st e = rows_none (fills side t ls r m) (fills_filled ls r m holds st (inl e) ∙ e)
 
   -- the rows of the first level are at its price, and those of later levels above it
-  first_at : (l : Level) (ls : List Level) (r m : ℕ) → Holds l → Standing (l ∷ ls) → AllByRecursion (λ (f : FillRow). turned side f.price ≡ l.price) (first l r m)
+  pub first_at : (l : Level) (ls : List Level) (r m : ℕ) → Holds l → Standing (l ∷ ls) → AllByRecursion (λ (f : FillRow). turned side f.price ≡ l.price) (first l r m)
   first_at l ls r m h st =
       All-weaker (λ (f : FillRow). f.price ≡ turned side l.price) (λ (f : FillRow). turned side f.price ≡ l.price)
       (λ f e. ap (turned side) e ∙ turned_twice side l.price) (first l r m) (first_laws l ls r m h st).at_price
@@ -135,7 +135,7 @@ module _ (side : Side) (t : ContraTerms) (floor : ℤ) (low : floor ≤ℤ contr
       (All-weaker (λ (f : FillRow). turned side f.price ≡ l.price) (λ (f : FillRow). z <ℤ turned side f.price) (λ f e. subst (λ (x : ℤ). z <ℤ x) (sym e) z_below) (first l r m) (first_at l ls r m h st))
       (fills_above z ls (r - taken (split_at t l r m)) (m + (split_at t l r m).contra) holds (later_stand l ls st) up)
 
-  later_above : (l : Level) (ls : List Level) (r m : ℕ) → AllByRecursion Holds ls → Ascending (l ∷ ls) → Standing (l ∷ ls) → AllByRecursion (λ (f : FillRow). l.price <ℤ turned side f.price) (later l ls r m)
+  pub later_above : (l : Level) (ls : List Level) (r m : ℕ) → AllByRecursion Holds ls → Ascending (l ∷ ls) → Standing (l ∷ ls) → AllByRecursion (λ (f : FillRow). l.price <ℤ turned side f.price) (later l ls r m)
   later_above l ls r m holds up st = fills_above l.price ls (r - taken (split_at t l r m)) (m + (split_at t l r m).contra) holds (later_stand l ls st) up.0
 
   -- f does not trade while g, at a better price, has contracts left

@@ -17,14 +17,21 @@ use Rattle.allocation.specs.declared.order.PairedOrder.{PairedOrder}
 use Rattle.allocation.specs.declared.response.Response.{Response}
 use Rattle.allocation.specs.Arranged.{arranged}
 use Rattle.allocation.specs.AuctionInvariant.{from_to, stop_ok, range_ok, guarantee_ok, terms_ok, response_ok, each, arrival_free, arrivals_apart}
+use Rattle.allocation.specs.ContraLaws.{ContraLaws}
 use Rattle.allocation.specs.FillLaws.{FillLaws}
-use Rattle.allocation.specs.FillList.{fills, fill_list, contra_terms}
-use Rattle.allocation.specs.Levels.{levels, contra_level, flat}
+use Rattle.allocation.specs.FillList.{fills, fill_list, contra_terms, order_levels}
+use Rattle.allocation.specs.Levels.{Level, levels, contra_level, flat}
 use Rattle.allocation.specs.LevelSteps.{Sized, Sound}
+use Rattle.allocation.specs.OnlyShares.{OnlyTheseShares}
+use Rattle.allocation.specs.Splits.{guaranteed}
 use Rattle.allocation.specs.Walk.{walked}
 use Rattle.allocation.proofs.AuctionKept.{both_left, both_right}
+use Rattle.allocation.proofs.ContraFacts.{fills_contra_lawful}
 use Rattle.allocation.proofs.FillFacts.{fills_lawful}
 use Rattle.allocation.proofs.LevelFacts.{holds_levels, ascending_levels, among_levels, shuffled_flat, flat_arranged, all_flat, shuffled_arranged, Apart}
+use Rattle.allocation.proofs.LawsDecide.{laws_decide}
+use Rattle.allocation.proofs.LevelRows.{Stands}
+use Rattle.allocation.proofs.LevelShape.{Holds, Ascending, Among}
 use Rattle.allocation.proofs.WalkFacts.{walked_is_fills, walkable_levels, few_levels}
 
 pub sound_arranged : (ahead : Response → Response → Bool) (xs : List Response) → Sound xs → Sound (arranged ahead xs)
@@ -96,7 +103,7 @@ all_sized size floor initiating (x ∷ xs) h a b e =
     let one = one_stands size floor initiating x (both_left (response_ok size floor initiating x) (each (response_ok size floor initiating) xs) e) in
     ((one.1, omega (arith, one.2), between floor x.price initiating a b one.3 one.4), all_sized size floor initiating xs h a b (both_right (response_ok size floor initiating x) (each (response_ok size floor initiating) xs) e))
 
-all_stand : (size : ℕ) (floor initiating : ℤ) (xs : List Response) → each (response_ok size floor initiating) xs ≡ true → AllByRecursion (λ (x : Response). (0 < x.member) × (0 < x.size) × (floor ≤ℤ x.price) × (x.price ≤ℤ initiating)) xs
+all_stand : (size : ℕ) (floor initiating : ℤ) (xs : List Response) → each (response_ok size floor initiating) xs ≡ true → AllByRecursion (Stands floor initiating) xs
 all_stand size floor initiating [] e = tt
 all_stand size floor initiating (x ∷ xs) e =
     let one = one_stands size floor initiating x (both_left (response_ok size floor initiating x) (each (response_ok size floor initiating) xs) e) in
@@ -104,21 +111,75 @@ all_stand size floor initiating (x ∷ xs) e =
     let high = one.4 in
     ((one.0, omega (arith, one.1), grind (arith, ints), grind (arith, ints)), all_stand size floor initiating xs (both_right (response_ok size floor initiating x) (each (response_ok size floor initiating) xs) e))
 
+-- the levels of an order whose range and guarantee are in order: what the laws of their fills rest on
+record InOrder (t : ContraTerms) (floor : ℤ) (ls : List Level) : Type 0 where
+  holds : AllByRecursion Holds ls
+  ascending : Ascending ls
+  among : Among (contra_level t.guarantee.kind t) ls
+  stand : AllByRecursion (Stands floor t.initiating) (flat ls)
+  low : floor ≤ℤ contra_level t.guarantee.kind t
+  high : t.guarantee.price ≤ℤ t.initiating
+
+levels_in_order : (ahead : Response → Response → Bool) (order : PairedOrder) (floor initiating : ℤ) (stood : List Response) → le_z floor initiating ≡ true → le_z order.guarantee.price initiating ≡ true
+    → stop_ok order.guarantee.kind floor order.guarantee.price ≡ true → each (response_ok order.size floor initiating) stood ≡ true
+    → InOrder (contra_terms order initiating (length stood)) floor (order_levels ahead order initiating stood)
+levels_in_order ahead order floor initiating stood in_order under stop_at e =
+    let t : ContraTerms = contra_terms order initiating (length stood) in
+    let own : ℤ = contra_level order.guarantee.kind t in
+    let above = own_in_range order.guarantee.kind order.guarantee.price floor initiating t refl refl in_order under stop_at in
+    record {
+      holds = holds_levels ahead own stood;
+      ascending = ascending_levels ahead own stood;
+      among = among_levels ahead own stood;
+      stand = all_flat ahead (Stands floor initiating) own stood (all_stand order.size floor initiating stood e);
+      low = grind (arith, ints);
+      high = grind (arith, ints);
+    }
+
 -- the fill list keeps its laws where the range and the guarantee are in order
 pub fill_list_in_order : (ahead : Response → Response → Bool) (order : PairedOrder) (floor initiating : ℤ) (stood : List Response) → le_z floor initiating ≡ true → le_z order.guarantee.price initiating ≡ true
     → stop_ok order.guarantee.kind floor order.guarantee.price ≡ true → each (response_ok order.size floor initiating) stood ≡ true → FillLaws order.side order.size floor initiating stood (fill_list ahead order initiating stood)
 fill_list_in_order ahead order floor initiating stood in_order under stop_at e =
     let t : ContraTerms = contra_terms order initiating (length stood) in
-    let own : ℤ = contra_level order.guarantee.kind t in
-    let low = own_in_range order.guarantee.kind order.guarantee.price floor initiating t refl refl in_order under stop_at in
-    fills_lawful order.side t order.size floor stood (levels ahead own stood) (holds_levels ahead own stood) (ascending_levels ahead own stood) (among_levels ahead own stood) (shuffled_flat ahead own stood)
-    (all_flat ahead (λ (x : Response). (0 < x.member) × (0 < x.size) × (floor ≤ℤ x.price) × (x.price ≤ℤ initiating)) own stood (all_stand order.size floor initiating stood e))
-    (grind (arith, ints)) (grind (arith, ints))
+    let h = levels_in_order ahead order floor initiating stood in_order under stop_at e in
+    fills_lawful order.side t order.size floor stood (order_levels ahead order initiating stood) h.holds h.ascending h.among (shuffled_flat ahead (contra_level order.guarantee.kind t) stood) h.stand h.low h.high
+
+-- and in it the contra takes what it may
+pub contra_in_order : (ahead : Response → Response → Bool) (order : PairedOrder) (floor initiating : ℤ) (stood : List Response) → le_z floor initiating ≡ true → le_z order.guarantee.price initiating ≡ true
+    → stop_ok order.guarantee.kind floor order.guarantee.price ≡ true → each (response_ok order.size floor initiating) stood ≡ true → ContraLaws order.side order.guarantee initiating (guaranteed order.size (length stood)) (fill_list ahead order initiating stood)
+contra_in_order ahead order floor initiating stood in_order under stop_at e =
+    let h = levels_in_order ahead order floor initiating stood in_order under stop_at e in
+    fills_contra_lawful order.side (contra_terms order initiating (length stood)) order.size floor (order_levels ahead order initiating stood) h.holds h.ascending h.among h.stand h.low h.high
+
+-- and no other shares keep both
+pub only_in_order : (ahead : Response → Response → Bool) (order : PairedOrder) (floor initiating : ℤ) (stood : List Response) → le_z floor initiating ≡ true → le_z order.guarantee.price initiating ≡ true
+    → stop_ok order.guarantee.kind floor order.guarantee.price ≡ true → each (response_ok order.size floor initiating) stood ≡ true
+    → OnlyTheseShares order.side order.size floor order.guarantee initiating (guaranteed order.size (length stood)) stood (fill_list ahead order initiating stood)
+only_in_order ahead order floor initiating stood in_order under stop_at e rows laws contra =
+    laws_decide order.side (contra_terms order initiating (length stood)) order.size floor stood rows (fill_list ahead order initiating stood)
+    (levels_in_order ahead order floor initiating stood in_order under stop_at e).high laws contra
+    (fill_list_in_order ahead order floor initiating stood in_order under stop_at e)
+    (contra_in_order ahead order floor initiating stood in_order under stop_at e)
 
 -- the fill list of an auction keeps its laws
 pub fill_list_lawful : (ahead : Response → Response → Bool) (order : PairedOrder) (floor initiating : ℤ) (stood : List Response) → Terms order floor initiating → each (response_ok order.size floor initiating) stood ≡ true
     → FillLaws order.side order.size floor initiating stood (fill_list ahead order initiating stood)
 fill_list_lawful ahead order floor initiating stood h e = fill_list_in_order ahead order floor initiating stood h.in_order h.guaranteed_at h.stop_at e
+
+-- rows that keep them and those of the contra, which no other shares keep
+pub record Lawful (order : PairedOrder) (floor initiating : ℤ) (stood : List Response) (rows : List FillRow) : Type 0 where
+  pub of_fills : FillLaws order.side order.size floor initiating stood rows
+  pub of_contra : ContraLaws order.side order.guarantee initiating (guaranteed order.size (length stood)) rows
+  pub only : OnlyTheseShares order.side order.size floor order.guarantee initiating (guaranteed order.size (length stood)) stood rows
+
+-- those of the fill list of an auction do
+pub auction_lawful : (ahead : Response → Response → Bool) (order : PairedOrder) (floor initiating : ℤ) (stood : List Response) → Terms order floor initiating → each (response_ok order.size floor initiating) stood ≡ true
+    → Lawful order floor initiating stood (fill_list ahead order initiating stood)
+auction_lawful ahead order floor initiating stood h e = record {
+  of_fills = fill_list_lawful ahead order floor initiating stood h e;
+  of_contra = contra_in_order ahead order floor initiating stood h.in_order h.guaranteed_at h.stop_at e;
+  only = only_in_order ahead order floor initiating stood h.in_order h.guaranteed_at h.stop_at e;
+}
 
 -- the front and the rest of what an accepted call wrote
 pub written_front : (fs rows new : List FillRow) (n : ℕ) → n ≡ length fs → new ≡ fs ++ drop n rows → take n new ≡ fs

@@ -30,15 +30,15 @@ abbrev pub Stands : ℤ → ℤ → Response → Type 0
 Stands floor initiating x = (0 < x.member) × (0 < x.size) × (floor ≤ℤ x.price) × (x.price ≤ℤ initiating)
 
 -- rows of k contracts that the contra got at a price
-record ContraRows (side : Side) (price : ℤ) (k : ℕ) (rows : List FillRow) : Type 0 where
-  at_price : AllByRecursion (λ (f : FillRow). f.price ≡ turned side price) rows
-  of_class : AllByRecursion (λ (f : FillRow). f.class ≡ Other) rows
-  of_none : AllByRecursion (λ (f : FillRow). of_response f ≡ false) rows
-  are_contra : AllByRecursion ContraRow rows
-  filled_is : filled_in rows ≡ k
-  each_filled : AllByRecursion (λ (f : FillRow). f.filled ≡ k) rows
+pub record ContraRows (side : Side) (price : ℤ) (k : ℕ) (rows : List FillRow) : Type 0 where
+  pub at_price : AllByRecursion (λ (f : FillRow). f.price ≡ turned side price) rows
+  pub of_class : AllByRecursion (λ (f : FillRow). f.class ≡ Other) rows
+  pub of_none : AllByRecursion (λ (f : FillRow). of_response f ≡ false) rows
+  pub are_contra : AllByRecursion ContraRow rows
+  pub filled_is : filled_in rows ≡ k
+  pub each_filled : AllByRecursion (λ (f : FillRow). f.filled ≡ k) rows
 
-contra_laws : (side : Side) (price : ℤ) (k : ℕ) → ContraRows side price k (contra_rows side price k)
+pub contra_laws : (side : Side) (price : ℤ) (k : ℕ) → ContraRows side price k (contra_rows side price k)
 contra_laws side price k =
     cond_both (ltb 0 k) (contra_row side price k ∷ []) [] (ContraRows side price k)
     (λ e. record {
@@ -73,7 +73,7 @@ pub record LevelLaws (side : Side) (own floor initiating : ℤ) (l : Level) (r :
   pub customers_first : AllByRecursion (λ (f : FillRow). AllByRecursion (λ (g : FillRow). g.class ≡ Customer → 0 < g.left → f.class ≡ Other → f.filled ≡ 0) rows) rows
   pub pro_rata : AllByRecursion (λ (f : FillRow). of_response f ≡ true → ProRata (filled_in (classmates f rows)) (size_in (classmates f rows)) f) rows
 
-not_both : (c : Class) → c ≡ Customer → c ≡ Other → ⊥
+pub not_both : (c : Class) → c ≡ Customer → c ≡ Other → ⊥
 not_both c p q = let z : ◌≡◌ {A = ℕ} 0 1 = cc in omega arith
 
 module _ (side : Side) (own floor initiating : ℤ) (l : Level) (r : ℕ) (s : Split) (C K O : List FillRow)

@@ -2,11 +2,17 @@ mod LevelShape
 mod LevelFacts
 mod ShareFacts
 mod SplitFacts
+mod ContraSplits
+mod SharesDecided
+mod RowCounts
+mod LawsDecide
 mod RowLists
 mod ClassRows
 pub mod Mates
 mod LevelRows
+mod ContraRows
 mod FillFacts
+mod ContraFacts
 mod Writes
 mod Puts
 mod WalkSteps

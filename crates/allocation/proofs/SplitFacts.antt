@@ -122,13 +122,3 @@ split_laws t price r m c n h =
       at_own = λ e. omega (arith, rest.at_own e);
       contra_where = λ reached k. rest.contra_where (fewer reached) k;
     }
-
--- Under a single stop the contra trades only at the stop.
-pub stop_where : (t : ContraTerms) (price : ℤ) (r n : ℕ) → 0 < (stop_rest t price r n).contra → price ≡ t.guarantee.price
-stop_where t price r n =
-    let own : ℤ = t.guarantee.price in
-    cond_both (lt_z price own) (others_share r n) (cond (lt_z own price) nothing_trades (clean_up r t.guaranteed n)) (λ q. 0 < q.contra → price ≡ own)
-    (λ e k. absurd (omega arith))
-    (λ e. cond_both (lt_z own price) nothing_trades (clean_up r t.guaranteed n) (λ q. 0 < q.contra → price ≡ own)
-    (λ f k. absurd (omega arith))
-    (λ f k. grind (arith, ints)))

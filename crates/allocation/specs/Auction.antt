@@ -7,11 +7,14 @@ use Rattle.allocation.specs.declared.order.PairedOrder.{PairedOrder}
 use Rattle.allocation.specs.declared.refusal.FillRefusal.{FillRefusal}
 use Rattle.allocation.specs.declared.response.Response.{Response}
 use Rattle.allocation.specs.AuctionInvariant.{terms_ok, stored_ok, response_ok, arrival_free}
+use Rattle.allocation.specs.ContraLaws.{ContraLaws}
 use Rattle.allocation.specs.FillLaws.{FillLaws, Told, response_told}
 use Rattle.allocation.specs.FillList.{fill_list, order_levels}
 use Rattle.allocation.specs.Levels.{Level}
+use Rattle.allocation.specs.OnlyShares.{OnlyTheseShares}
 use Rattle.allocation.specs.Rankings.{Ordered}
 use Rattle.allocation.specs.Refusals.{fill_refusal}
+use Rattle.allocation.specs.Splits.{guaranteed}
 use Rattle.allocation.specs.Table.{standing, place_of, rewritten, without_place, any_below}
 
 -- The order with its guarantee as stored, the range, and the responses that stand; prices are turned.
@@ -45,12 +48,17 @@ fill_answer fills rows = cond (nat_lt (length rows) 129) (Err (fill_refusal 6)) 
 abbrev pub rows_after : List FillRow → List FillRow → List FillRow
 rows_after fills rows = cond (nat_lt (length rows) 129) rows (fills ++ drop (length fills) rows)
 
--- The rows that an accepted call wrote, as many as it answered, keep the laws of a fill list, and the rows past them are
--- as they were. A refused call had a list under 129 rows, and wrote nothing.
+-- The rows that an accepted call wrote, as many as it answered, keep the laws of a fill list and of what the contra may
+-- take, no other shares keep them, and the rows past them are as they were. A refused call had a list under 129 rows, and
+-- wrote nothing.
 abbrev pub LawfullyFilled : AuctionValues → Result ℕ FillRefusal → List FillRow → List FillRow → Type 0
 LawfullyFilled a r before after =
+    let share : ℕ = guaranteed a.order.size (length a.stood) in
     MatchResult r
-    (λ n. FillLaws a.order.side a.order.size a.floor a.initiating a.stood (take n after) × (n ≤ length after) × (drop n after ≡ drop n before) × (129 ≤ length before))
+    (λ n. FillLaws a.order.side a.order.size a.floor a.initiating a.stood (take n after)
+    × ContraLaws a.order.side a.order.guarantee a.initiating share (take n after)
+    × OnlyTheseShares a.order.side a.order.size a.floor a.order.guarantee a.initiating share a.stood (take n after)
+    × (n ≤ length after) × (drop n after ≡ drop n before) × (129 ≤ length before))
     (λ _. (after ≡ before) × (length before < 129))
 
 -- At each level the customers stand in ranking order, and so do the others.

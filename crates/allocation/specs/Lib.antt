@@ -9,6 +9,8 @@ pub mod Levels
 pub mod Arranged
 pub mod FillList
 pub mod FillLaws
+pub mod ContraLaws
+pub mod OnlyShares
 pub mod LevelSteps
 pub mod Plans
 pub mod Walk

@@ -1,7 +1,8 @@
 // One task from beginning to end: from the quotes of a strategy's legs to the prices at which an order may trade, and
-// on to who gets how many of its contracts.
+// on to who gets how many of its contracts; and then an auction in a room.
 #![tactic(auto)]
 
+mod day;
 mod fills;
 mod levels;
 mod responses;
@@ -30,7 +31,10 @@ fn main(rt: HostRuntime) -> io::Result<()> {
     steps::show_terms(&rt, 1, first)?;
     steps::show_terms(&rt, 2, second)?;
     match Legs::new(first, second) {
-        Ok(legs) => steps::narrate(&rt, legs),
+        Ok(legs) => {
+            steps::narrate(&rt, legs)?;
+            day::auction(&rt, legs)
+        }
         Err(refusal) => println!(rt; "  refused: {}", refusal.number()),
     }
 }

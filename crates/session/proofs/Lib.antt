@@ -6,8 +6,8 @@ pub mod Sharing
 pub mod RunLaws
 mod Choices
 mod ClaimsHeld
-mod ClaimsKept
-mod Closing
+pub mod ClaimsKept
+pub mod Closing
 mod MemoryTaken
 mod CollectsHeld
 mod SessionRuns

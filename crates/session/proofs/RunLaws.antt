@@ -2,14 +2,18 @@
 use Rattle.std.proofs.Common.{ℕ, List}
 use Rattle.room.specs.World.{World, Terms}
 use Rattle.session.specs.declared.calls.Call.{Call}
-use Rattle.session.specs.Laws.{RunLaws, LawsOfRun}
+use Rattle.session.specs.Laws.{RunLaws, LawsOfRun, LawsOfSession}
+use Rattle.session.specs.Sessions.{Session}
 use Rattle.session.proofs.Ending.Laws.{auctions_end_as_ruled}
 use Rattle.session.proofs.Learning.Learned.{member_sees_the_same}
+use Rattle.session.proofs.Learning.LearnedInSessions.{member_sees_the_same_in_sessions}
+use Rattle.session.proofs.SessionRuns.{answers_of_moments}
 use Rattle.session.proofs.Sharing.{contracts_are_shared_lawfully}
 
 pub run_laws : {P T F Q : Type 0} (w : World P T F Q) → Terms w → RunLaws w
 run_laws w terms = record {
   learning = member_sees_the_same w;
+  session_learning = member_sees_the_same_in_sessions w;
   ending = auctions_end_as_ruled w terms;
   sharing = contracts_are_shared_lawfully w terms;
 }
@@ -27,3 +31,7 @@ laws_of_run w terms number p q cs =
       for_its_causes = ends.4;
       shared_lawfully = contracts_are_shared_lawfully w terms number p q cs;
     }
+
+-- and of each session
+pub laws_of_session : {P T F Q : Type 0} (w : World P T F Q) (s : Session P Q) (cs : List (Call T)) → LawsOfSession w s cs
+laws_of_session w s cs = record { answers = answers_of_moments w s cs; learning = λ u ds. member_sees_the_same_in_sessions w s u cs ds }

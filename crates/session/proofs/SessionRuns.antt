@@ -1,12 +1,15 @@
--- A session's answers are those of the run of the calls that were made; and how the loop over the calls goes on.
+-- A session's answers are those of the run of the calls that were made, and those of its moments; and how the loop over the
+-- calls goes on.
 use Rattle.std.proofs.Common.{◌≡◌, Bool, true, false, cond, List, [], ◌∷◌, ◌++◌, map, Some, None, Option, sym, refl, ap, ◌∙◌, append_assoc}
 use mathlib.Core.List.{map-append}
+use Rattle.std.specs.Option.{option_map}
 use Rattle.room.specs.declared.answers.ClaimNumbers.{ClaimNumbers}
 use Rattle.room.specs.State.{RoomState}
 use Rattle.room.specs.World.{World}
 use Rattle.session.specs.declared.calls.Call.{Call}
-use Rattle.session.specs.Runs.{Answer, Moment, step, run_from}
-use Rattle.session.specs.Sessions.{Session, is_made, session_of, purse_after, session_after, session_answer, session_answers, calls_made, session_end, given}
+use Rattle.session.specs.Runs.{Answer, Moment, moment, step, run_from}
+use Rattle.session.specs.Sessions.{Session, is_made, session_of, purse_after, session_after, session_answer, session_answers, session_moment, session_moments, calls_made, session_end, given}
+use Rattle.session.proofs.Choices.{cond_through}
 
 module _ {P T F Q : Type 0} (w : World P T F Q) where
   abbrev answers_of : List (Moment P T F Q) → List (Answer F)
@@ -29,6 +32,13 @@ module _ {P T F Q : Type 0} (w : World P T F Q) where
   pub answers_of_made : (s : Session P Q) (cs : List (Call T)) → given (session_answers w s cs) ≡ answers_of (run_from w s.room (calls_made w s cs))
   answers_of_made s [] = refl
   answers_of_made s (c ∷ cs) = of_made (is_made c s.purse) s c cs refl (λ t. answers_of_made t cs)
+
+  -- and those of the session's moments
+  pub answers_of_moments : (s : Session P Q) (cs : List (Call T)) → session_answers w s cs ≡ map (option_map (λ (m : Moment P T F Q). m.answer)) (session_moments w s cs)
+  answers_of_moments s [] = refl
+  answers_of_moments s (c ∷ cs) =
+      ap (λ a. a ∷ session_answers w (session_after w s c) cs) (sym (cond_through (option_map (λ (m : Moment P T F Q). m.answer)) (is_made c s.purse) (Some (moment w s.room c)) None))
+      ∙ ap (λ l. option_map (λ (m : Moment P T F Q). m.answer) (session_moment w s c) ∷ l) (answers_of_moments (session_after w s c) cs)
 
   -- one call more was answered
   pub one_answered : (done done' : List (Option (Answer F))) (s s' : Session P Q) (a : Option (Answer F)) (c : Call T) (cs cs' : List (Call T))

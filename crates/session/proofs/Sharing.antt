@@ -2,12 +2,16 @@
 -- tells of.
 use Rattle.std.proofs.Common.{◌≡◌, ◌⊎◌, inl, inr, ℕ, false, List, [], length, ℤ, Some, sym, refl, ap, ◌∙◌, subst}
 use Rattle.interval.specs.Source.{WithinLimits}
-use Rattle.allocation.proofs.FillProved.{fill_list_in_order}
+use lib.ListN.{length-map}
+use Rattle.allocation.proofs.FillProved.{fill_list_in_order, contra_in_order, only_in_order}
 use Rattle.allocation.specs.declared.fill.FillRow.{FillRow}
 use Rattle.allocation.specs.declared.order.PairedOrder.{PairedOrder}
 use Rattle.allocation.specs.Auction.{AuctionValues, told_of}
-use Rattle.allocation.specs.FillLaws.{Told}
+use Rattle.allocation.specs.ContraLaws.{ContraLaws}
+use Rattle.allocation.specs.FillLaws.{Told, response_told}
+use Rattle.allocation.specs.OnlyShares.{OnlyTheseShares}
 use Rattle.allocation.specs.Rankings.{by_key}
+use Rattle.allocation.specs.Splits.{guaranteed}
 use Rattle.room.specs.declared.answers.ClaimNumbers.{ClaimNumbers}
 use Rattle.room.specs.declared.answers.Collection.{Collection}
 use Rattle.room.specs.Collecting.{fill_rows}
@@ -15,7 +19,7 @@ use Rattle.room.specs.State.{EndedAuction, RoomState, new_room, numbered}
 use Rattle.room.specs.World.{World, Terms}
 use Rattle.session.specs.declared.calls.Call.{Call}
 use Rattle.session.specs.declared.calls.Call.TheVariants.{Collect}
-use Rattle.session.specs.History.{OpeningFacts, floor_of, stood_in, is_collected}
+use Rattle.session.specs.History.{OpeningFacts, guarantee_of, floor_of, stood_in, is_collected}
 use Rattle.session.specs.Runs.{Answer, Collected, Moment, moment, step}
 use Rattle.session.specs.Sharing.{ToldFillLaws, SharedLawfully, CollectedLawfully, ContractsAreSharedLawfully}
 use Rattle.session.proofs.Ending.Held.{Holds, holds_new}
@@ -27,21 +31,31 @@ use Rattle.room.proofs.Tests.{true_false}
 
 module _ {P T F Q : Type 0} (w : World P T F Q) (p : P) (q : Q) where
   -- a sound auction's fill list is lawful
-  sound_lawful : (v : AuctionValues) (e : EndedAuction) → e.values ≡ v → Sound v → ToldFillLaws v.order.side v.order.size v.floor v.initiating (told_of v) (fill_rows w e)
+  sound_lawful : (v : AuctionValues) (e : EndedAuction) → e.values ≡ v → Sound v → ToldFillLaws v.order.side v.order.size v.order.guarantee v.floor v.initiating (told_of v) (fill_rows w e)
   sound_lawful v e k h =
-      subst (λ (u : AuctionValues). ToldFillLaws u.order.side u.order.size u.floor u.initiating (told_of u) (fill_rows w e)) k
+      subst (λ (u : AuctionValues). ToldFillLaws u.order.side u.order.size u.order.guarantee u.floor u.initiating (told_of u) (fill_rows w e)) k
       (let s = subst Sound (sym k) h in
-      record { stood = e.values.stood; told_of_them = refl; fill_laws = fill_list_in_order (by_key w.ahead) e.values.order e.values.floor e.values.initiating e.values.stood s.in_order s.guaranteed_at s.stop_at s.standing })
+      let counted : length e.values.stood ≡ length (told_of e.values) = sym (length-map e.values.stood (response_told e.values.order.side)) in
+      let held = e.values in
+      let may = contra_in_order (by_key w.ahead) held.order held.floor held.initiating held.stood s.in_order s.guaranteed_at s.stop_at s.standing in
+      let only = only_in_order (by_key w.ahead) held.order held.floor held.initiating held.stood s.in_order s.guaranteed_at s.stop_at s.standing in
+      record {
+        stood = held.stood;
+        told_of_them = refl;
+        fill_laws = fill_list_in_order (by_key w.ahead) held.order held.floor held.initiating held.stood s.in_order s.guaranteed_at s.stop_at s.standing;
+        contra = subst (λ (n : ℕ). ContraLaws held.order.side held.order.guarantee held.initiating (guaranteed held.order.size n) (fill_rows w e)) counted may;
+        only = subst (λ (n : ℕ). OnlyTheseShares held.order.side held.order.size held.floor held.order.guarantee held.initiating (guaranteed held.order.size n) held.stood (fill_rows w e)) counted only;
+      })
 
   -- and so it is of the values that the history tells
   told_lawful : (n : ℕ) (past : List (Moment P T F Q)) (f : OpeningFacts) (e : EndedAuction) → Tells w p q n past f e.values
-      → ToldFillLaws f.order.side f.order.size (floor_of w p q n f past) f.range.initiating (stood_in n past) (fill_rows w e)
+      → ToldFillLaws f.order.side f.order.size (guarantee_of f) (floor_of w p q n f past) f.range.initiating (stood_in n past) (fill_rows w e)
   told_lawful n past f e t =
       let laws = sound_lawful e.values e refl t.sound in
-      let stood = subst (λ (l : List Told). ToldFillLaws e.values.order.side e.values.order.size e.values.floor e.values.initiating l (fill_rows w e)) t.stood_is laws in
-      let initiating = subst (λ (z : ℤ). ToldFillLaws e.values.order.side e.values.order.size e.values.floor z (stood_in n past) (fill_rows w e)) t.initiating_is stood in
-      let floor = subst (λ (z : ℤ). ToldFillLaws e.values.order.side e.values.order.size z f.range.initiating (stood_in n past) (fill_rows w e)) t.floor_is initiating in
-      subst (λ (o : PairedOrder). ToldFillLaws o.side o.size (floor_of w p q n f past) f.range.initiating (stood_in n past) (fill_rows w e)) t.order_is floor
+      let stood = subst (λ (l : List Told). ToldFillLaws e.values.order.side e.values.order.size e.values.order.guarantee e.values.floor e.values.initiating l (fill_rows w e)) t.stood_is laws in
+      let initiating = subst (λ (z : ℤ). ToldFillLaws e.values.order.side e.values.order.size e.values.order.guarantee e.values.floor z (stood_in n past) (fill_rows w e)) t.initiating_is stood in
+      let floor = subst (λ (z : ℤ). ToldFillLaws e.values.order.side e.values.order.size e.values.order.guarantee z f.range.initiating (stood_in n past) (fill_rows w e)) t.floor_is initiating in
+      subst (λ (o : PairedOrder). ToldFillLaws o.side o.size o.guarantee (floor_of w p q n f past) f.range.initiating (stood_in n past) (fill_rows w e)) t.order_is floor
 
   module _ (drawn : WithinLimits w.source) (number : ℕ) (past : List (Moment P T F Q)) (s : RoomState P Q) (c : Call T) (h : Holds w drawn number p q past s) where
     -- what an accepted collecting answers
@@ -58,7 +72,7 @@ module _ {P T F Q : Type 0} (w : World P T F Q) (p : P) (q : Q) where
         record {
           opened_with = over.facts;
           was_opened = over.opened_as;
-          laws = subst (ToldFillLaws over.facts.order.side over.facts.order.size (floor_of w p q auction over.facts past) over.facts.range.initiating (stood_in auction past)) wrote (told_lawful auction past over.facts x over.tells);
+          laws = subst (ToldFillLaws over.facts.order.side over.facts.order.size (guarantee_of over.facts) (floor_of w p q auction over.facts past) over.facts.range.initiating (stood_in auction past)) wrote (told_lawful auction past over.facts x over.tells);
           as_many_as_told = ap length (sym wrote) ∙ ap (λ (z : Collection). z.count) told;
         }
     shared_by (inr none) room auction long k fs e a = true_false (sym (ap (λ (z : Answer F). is_collected z) a) ∙ none)

@@ -5,7 +5,7 @@ use Rattle.room.specs.State.{new_room}
 use Rattle.room.specs.World.{World}
 use Rattle.session.specs.declared.desk.day.Day.{Day}
 use Rattle.session.specs.declared.desk.day.DayDone.{DayDone}
-use Rattle.session.specs.Laws.{LawsOfRun}
+use Rattle.session.specs.Laws.{LawsOfRun, LawsOfSession}
 use Rattle.session.specs.Sessions.{Session, session_of, session_answers, session_end, calls_made}
 use Rattle.session.specs.Told.{told}
 
@@ -22,3 +22,6 @@ module _ {M R S P T F Q : Type 0} where
     pub ranking : done.desk.session.room.ranking ≡ d.ranking
     -- Every law holds of the run of the calls that were made.
     pub laws : LawsOfRun w d.number (position d.market) (source d.source) (calls_made w (at_dawn position source d) (vec_items d.calls))
+    -- The laws of the session hold, of the calls as they were handed in, with the collectings whose claim is not held: what a
+    -- member may learn of them.
+    pub session_laws : LawsOfSession w (at_dawn position source d) (vec_items d.calls)

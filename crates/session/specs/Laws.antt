@@ -1,15 +1,19 @@
--- The laws over whole runs. They hold of every world that keeps its terms.
+-- The laws over whole runs, and over sessions. They hold of every world that keeps its terms.
 use Rattle.std.specs.Prelude.{◌≡◌, ℕ, List, [], map}
+use Rattle.std.specs.Option.{option_map}
 use Rattle.room.specs.World.{World}
 use Rattle.session.specs.declared.calls.Call.{Call}
 use Rattle.session.specs.Ending.{EndedWithinASecond, BusinessAfterTheClockStep, NotByTimeTooSoon, EndedNotVanished, EndedForItsCauses, AuctionsEndAsRuled}
 use Rattle.session.specs.History.{Throughout}
 use Rattle.session.specs.Learning.{AllAlike, opens_here, ends_here, seen_by, MemberSeesTheSame}
-use Rattle.session.specs.Runs.{run}
+use Rattle.session.specs.Runs.{Moment, run}
+use Rattle.session.specs.SessionLearning.{ShownTheSame, MemberSeesTheSameInSessions, opens_if_made, ends_if_made}
+use Rattle.session.specs.Sessions.{Session, session_answers, session_moments}
 use Rattle.session.specs.Sharing.{CollectedLawfully, ContractsAreSharedLawfully}
 
 pub record RunLaws {P T F Q : Type 0} (w : World P T F Q) : Type 0 where
   pub learning : MemberSeesTheSame w
+  pub session_learning : MemberSeesTheSameInSessions w
   pub ending : AuctionsEndAsRuled w
   pub sharing : ContractsAreSharedLawfully w
 
@@ -29,3 +33,14 @@ pub record LawsOfRun {P T F Q : Type 0} (w : World P T F Q) (number : ℕ) (p : 
   pub for_its_causes : Throughout (EndedForItsCauses w number p q) [] (run w number p q cs)
   -- How contracts are shared.
   pub shared_lawfully : Throughout (CollectedLawfully w p q) [] (run w number p q cs)
+
+-- The laws of one session: of these calls from it on, with those that are not made.
+pub record LawsOfSession {P T F Q : Type 0} (w : World P T F Q) (s : Session P Q) (cs : List (Call T)) : Type 0 where
+  -- The answers are those of its moments, none where no call is made.
+  pub answers : session_answers w s cs ≡ map (option_map (λ (m : Moment P T F Q). m.answer)) (session_moments w s cs)
+  -- What a member may learn: against every other list of calls that is alike to the member, and in which openings are
+  -- accepted and auctions end at the same places, the member is shown the same, and calls are made, at the same places.
+  pub learning : (u : ℕ) (ds : List (Call T)) → AllAlike u cs ds
+      → map opens_if_made (session_moments w s cs) ≡ map opens_if_made (session_moments w s ds)
+      → map ends_if_made (session_moments w s cs) ≡ map ends_if_made (session_moments w s ds)
+      → ShownTheSame u (session_moments w s cs) (session_moments w s ds)

@@ -4,8 +4,9 @@ pub mod History
 pub mod Learning
 pub mod Ending
 pub mod Sharing
-pub mod Laws
 pub mod Sessions
+pub mod SessionLearning
+pub mod Laws
 pub mod Claims
 pub mod Purses
 pub mod Told

@@ -6,7 +6,7 @@ use Rattle.room.specs.World.{World}
 use Rattle.session.specs.declared.calls.Call.{Call}
 use Rattle.session.specs.declared.handed.Finished.{Finished}
 use Rattle.session.specs.declared.handed.Handed.{Handed}
-use Rattle.session.specs.Laws.{LawsOfRun}
+use Rattle.session.specs.Laws.{LawsOfRun, LawsOfSession}
 use Rattle.session.specs.Runs.{Moment, run}
 use Rattle.session.specs.Sessions.{Session, session_of, session_answers, session_end, calls_made, given}
 use Rattle.session.specs.Claims.{claims_of_room}
@@ -37,6 +37,9 @@ module _ {M R S P T F Q : Type 0} where
     pub of_the_run : given (session_answers w (at_first position source h) (vec_items h.calls)) ≡ map (λ (m : Moment P T F Q). m.answer) (run w h.number (position h.market) (source h.source) (made_of w position source h))
     -- and every law holds of that run.
     pub laws : LawsOfRun w h.number (position h.market) (source h.source) (made_of w position source h)
+    -- The laws of the session hold, of the calls as they were handed in, with the collectings whose claim is not held: what a
+    -- member may learn of them.
+    pub session_laws : LawsOfSession w (at_first position source h) (vec_items h.calls)
 
 -- Everything that was handed in comes back.
 pub record HandedBack {M R S T : Type 0} (h k : Handed M R S T) : Type 0 where

@@ -7,7 +7,7 @@ use Rattle.room.specs.World.{World}
 use Rattle.session.specs.declared.calls.Call.{Call}
 use Rattle.session.specs.declared.calls.Call.TheVariants.{Open, Respond, Change, Withdraw, Tick, Halt, Resume, Clock, Look, Collect}
 use Rattle.session.specs.History.{is_collected}
-use Rattle.session.specs.Runs.{Answer, Opened, Stored, Accepted, Looked, Collected, Refused, step}
+use Rattle.session.specs.Runs.{Answer, Opened, Stored, Accepted, Looked, Collected, Refused, Moment, moment, step}
 
 -- Two claims have the same numbers.
 abbrev pub same_claim : ClaimNumbers → ClaimNumbers → Bool
@@ -79,10 +79,19 @@ module _ {P T F Q : Type 0} (w : World P T F Q) where
   abbrev pub session_answer : Session P Q → Call T → Option (Answer F)
   session_answer s c = cond (is_made c s.purse) (Some (step w s.room c).1) None
 
-  -- The answers to calls made one after another, from a session on; which of them were made; and the session at the end.
+  -- The moment of a call on the room; none where no call is made.
+  abbrev pub session_moment : Session P Q → Call T → Option (Moment P T F Q)
+  session_moment s c = cond (is_made c s.purse) (Some (moment w s.room c)) None
+
+  -- The answers to calls made one after another, from a session on; their moments; which of them were made; and the session
+  -- at the end.
   abbrev pub session_answers : Session P Q → List (Call T) → List (Option (Answer F))
   session_answers s [] = []
   session_answers s (c ∷ cs) = session_answer s c ∷ session_answers (session_after s c) cs
+
+  abbrev pub session_moments : Session P Q → List (Call T) → List (Option (Moment P T F Q))
+  session_moments s [] = []
+  session_moments s (c ∷ cs) = session_moment s c ∷ session_moments (session_after s c) cs
 
   abbrev pub calls_made : Session P Q → List (Call T) → List (Call T)
   calls_made s [] = []

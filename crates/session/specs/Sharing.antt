@@ -4,27 +4,35 @@ use Rattle.std.specs.Prelude.{◌≡◌, ℕ, ℤ, List, [], length, map, Some}
 use Rattle.market.specs.declared.side.Side.{Side}
 use Rattle.allocation.specs.declared.fill.FillRow.{FillRow}
 use Rattle.allocation.specs.declared.response.Response.{Response}
+use Rattle.allocation.specs.declared.order.Guarantee.{Guarantee}
+use Rattle.allocation.specs.ContraLaws.{ContraLaws}
 use Rattle.allocation.specs.FillLaws.{FillLaws, Told, response_told}
+use Rattle.allocation.specs.OnlyShares.{OnlyTheseShares}
+use Rattle.allocation.specs.Splits.{guaranteed}
 use Rattle.room.specs.declared.answers.Collection.{Collection}
 use Rattle.room.specs.World.{World}
 use Rattle.session.specs.declared.calls.Call.{Call}
 use Rattle.session.specs.declared.calls.Call.TheVariants.{Collect}
-use Rattle.session.specs.History.{OpeningFacts, opening_of, floor_of, stood_in, Throughout}
+use Rattle.session.specs.History.{OpeningFacts, opening_of, guarantee_of, floor_of, stood_in, Throughout}
 use Rattle.session.specs.Runs.{Collected, Moment, run}
 
--- The rows keep the laws of a fill list, of responses of which just this is told.
-pub record ToldFillLaws (side : Side) (size : ℕ) (floor initiating : ℤ) (told : List Told) (rows : List FillRow) : Type 0 where
+-- The rows keep the laws of a fill list, of responses of which just this is told, and those of what the contra may take,
+-- whose guaranteed share goes by the order's size and by how many responses are told of; and no other shares keep them.
+pub record ToldFillLaws (side : Side) (size : ℕ) (guarantee : Guarantee) (floor initiating : ℤ) (told : List Told) (rows : List FillRow) : Type 0 where
   pub stood : List Response
   pub told_of_them : map (response_told side) stood ≡ told
   pub fill_laws : FillLaws side size floor initiating stood rows
+  pub contra : ContraLaws side guarantee initiating (guaranteed size (length told)) rows
+  pub only : OnlyTheseShares side size floor guarantee initiating (guaranteed size (length told)) stood rows
 
 -- The rows that a collecting wrote list the responses that stood, total the order's size, lie between the auction's floor
--- (the ending tick not counted) and its initiating price, and keep the other laws of a fill list; and it wrote as many
--- rows as it told.
+-- (the ending tick not counted) and its initiating price, and keep the other laws of a fill list; the contra takes what its
+-- guarantee, as it was stored, lets it take; no other shares keep these laws; and the collecting wrote as many rows as it
+-- told.
 pub record SharedLawfully {P T F Q : Type 0} (w : World P T F Q) (p : P) (q : Q) (n : ℕ) (past : List (Moment P T F Q)) (k : Collection) (rows : List FillRow) : Type 0 where
   pub opened_with : OpeningFacts
   pub was_opened : opening_of w p q n past ≡ Some opened_with
-  pub laws : ToldFillLaws opened_with.order.side opened_with.order.size (floor_of w p q n opened_with past) opened_with.range.initiating (stood_in n past) rows
+  pub laws : ToldFillLaws opened_with.order.side opened_with.order.size (guarantee_of opened_with) (floor_of w p q n opened_with past) opened_with.range.initiating (stood_in n past) rows
   pub as_many_as_told : length rows ≡ k.count
 
 abbrev pub CollectedLawfully : {P T F Q : Type 0} → World P T F Q → P → Q → List (Moment P T F Q) → Moment P T F Q → Type 0

@@ -6,7 +6,7 @@ use allocation::ranking::Ranking;
 use interval::source::IntervalSource;
 use market::market::Market;
 
-// Of every run of the model of a room over any market, source and ranking.
+// Of every run of the model of a room over any market, source and ranking, and of what a member may learn in every session.
 pub fn run_laws_hold<M: Market, S: IntervalSource, R: Ranking>(ranking: &R)
     ensures { RunLaws (record { market = M.Market.meaning; source = S.IntervalSource.meaning; ahead = R.Ranking.ahead ranking.now }) }
 {}

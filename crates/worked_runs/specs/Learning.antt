@@ -1,14 +1,17 @@
 -- What a member is shown of two days that differ in what is hidden from it.
-use Rattle.std.specs.Prelude.{◌≡◌, Bool, true, false, List, [], ◌∷◌, map, Some, None, Option}
+use Rattle.std.specs.Prelude.{◌≡◌, Bool, true, false, List, [], ◌∷◌, ◌++◌, map, is_some, Some, None, Option}
 use Rattle.market.specs.declared.side.Side.TheVariants.{Buy}
 use Rattle.interval.specs.declared.fixed.FixedInterval.{FixedInterval}
 use Rattle.allocation.specs.declared.cause.EndCause.TheVariants.{Deadline}
 use Rattle.allocation.specs.declared.response.Class.TheVariants.{Customer, Other}
 use Rattle.allocation.specs.declared.response.Kind.TheVariants.{Sealed, Plain}
+use Rattle.room.specs.State.{new_room}
 use Rattle.session.specs.Learning.{AllAlike, opens_here, ends_here, seen_by}
 use Rattle.session.specs.Runs.{run}
+use Rattle.session.specs.SessionLearning.{opens_if_made, ends_if_made, seen_if_made}
+use Rattle.session.specs.Sessions.{session_of, session_moments}
 use Rattle.worked_runs.specs.Rooms.{CubeMoment, by_arrival, hundred, unquoted_market, day_calls, Day}
-use Rattle.worked_runs.specs.Script.{CubeAnswer, Line, ◌⇒◌, this_room, buys, stop, auto_match, offers, changes, book_tick, clock, looks, collects, claim, stored, accepted, none_open, one_open, viewed, collected, row, contra_row, refused}
+use Rattle.worked_runs.specs.Script.{CubeCall, CubeAnswer, Line, ◌⇒◌, this_room, buys, stop, auto_match, offers, changes, book_tick, clock, looks, collects, claim, stored, accepted, none_open, one_open, viewed, collected, row, contra_row, refused}
 
 -- The moments of a day.
 abbrev pub moments : List Line → List (CubeMoment FixedInterval)
@@ -91,6 +94,32 @@ Member5IsShownTheSame =
     × (map (seen_by 5) (moments stop_day) ≡ shown_to_member_5)
     × (map (seen_by 5) (moments auto_match_day) ≡ shown_to_member_5)
 
+-- A day with a collecting of its auction before the first call and one behind the last.
+abbrev pub collected_too_often : List Line → List CubeCall
+collected_too_often ls = collects 1 ∷ day_calls ls ++ collects 1 ∷ []
+
+-- The moments of these calls as a session that begins with no claim.
+abbrev pub session_of_day : List Line → List (Option (CubeMoment FixedInterval))
+session_of_day ls =
+    session_moments by_arrival (session_of (new_room this_room unquoted_market hundred) []) (collected_too_often ls)
+
+-- All calls are made but the first and the last: before the opening no claim is held, and then it is spent.
+abbrev pub made_then : List Bool
+made_then = false ∷ map (λ _. true) openings_then ++ false ∷ []
+
+-- So it is of both days, and member 5 is shown what it was shown.
+abbrev pub NoClaimTellsNothing : Type 0
+NoClaimTellsNothing =
+    AllAlike 5 (collected_too_often stop_day) (collected_too_often auto_match_day)
+    × (map is_some (session_of_day stop_day) ≡ made_then)
+    × (map is_some (session_of_day auto_match_day) ≡ made_then)
+    × (map opens_if_made (session_of_day stop_day) ≡ false ∷ openings_then ++ false ∷ [])
+    × (map opens_if_made (session_of_day auto_match_day) ≡ false ∷ openings_then ++ false ∷ [])
+    × (map ends_if_made (session_of_day stop_day) ≡ false ∷ ends_then ++ false ∷ [])
+    × (map ends_if_made (session_of_day auto_match_day) ≡ false ∷ ends_then ++ false ∷ [])
+    × (map (seen_if_made 5) (session_of_day stop_day) ≡ None ∷ shown_to_member_5 ++ None ∷ [])
+    × (map (seen_if_made 5) (session_of_day auto_match_day) ≡ None ∷ shown_to_member_5 ++ None ∷ [])
+
 -- A day with a stop of 300, and one with a stop of 302.
 abbrev pub stop_300_day : List Line
 stop_300_day =
@@ -113,4 +142,4 @@ TheEndOfAnAuctionTells = Day stop_300_day × Day stop_302_day × AllAlike 5 (day
 
 -- The list.
 abbrev pub LearningInRuns : Type 0
-LearningInRuns = Member5IsShownTheSame × TheEndOfAnAuctionTells
+LearningInRuns = Member5IsShownTheSame × NoClaimTellsNothing × TheEndOfAnAuctionTells

@@ -2,6 +2,8 @@
 use Rattle.std.specs.Prelude.{◌≡◌, ℕ, List, [], ◌∷◌, map, ℤ, pos, Some, None, Option}
 use Rattle.std.specs.Option.{option_map}
 use Rattle.market.specs.declared.side.Side.TheVariants.{Buy, Sell}
+use Rattle.market.specs.Cube.{CubePosition}
+use Rattle.market.specs.Meaning.{nothing_shown}
 use Rattle.interval.specs.declared.fixed.FixedInterval.{FixedInterval}
 use Rattle.allocation.specs.declared.cause.EndCause.TheVariants.{NextAuction, FloorAboveInitiating, FloorAboveResponse, FloorAboveStop, PlainBelowFloor, ContraBelowGuarantee, Deadline}
 use Rattle.allocation.specs.declared.response.Class.TheVariants.{Customer, Other}
@@ -227,6 +229,34 @@ CrossedMarketEndsAnAuction =
     ∷ collects 2 ⇒ collected 1 ContraBelowGuarantee (contra_row 300 10 ∷ [])
     ∷ [])
 
+-- The same legs, not quoted, beside a book that is improved by nine cents, so that one of its quotes can cross by more than a cent.
+abbrev pub widely_improved : CubePosition
+widely_improved = ((nothing_shown, 9), unquoted_market.1)
+
+-- D before F: the book, improved, shows 290 and 320, and then 307 and 291, above the stop of 300 and below it at one tick. D is
+-- told.
+abbrev pub FloorAboveStopBeforeContraBelowGuarantee : Type 0
+FloorAboveStopBeforeContraBelowGuarantee =
+    Goes by_arrival widely_improved hundred
+    (book_tick 0 281 329 ⇒ accepted
+    ∷ buys 10000 100 310 (stop 300) ⇒ claim 1
+    ∷ book_tick 10010 298 300 ⇒ accepted
+    ∷ looks ⇒ none_open 10010 1
+    ∷ collects 1 ⇒ collected 1 FloorAboveStop (contra_row 300 100 ∷ [])
+    ∷ [])
+
+-- A contra that has matched more than its share lacks none of it: of 100 its share is 40, and at 298 it matches 45; at 304, the
+-- initiating price, the 10 that are left go to the response there.
+abbrev pub NothingLackingAtTheInitiatingPrice : Type 0
+NothingLackingAtTheInitiatingPrice =
+    Day
+    (buys 10000 100 310 (auto_match 298) ⇒ claim 1
+    ∷ offers Sealed Other 10010 2 1 45 298 ⇒ stored 45 298
+    ∷ offers Sealed Other 10010 3 1 30 304 ⇒ stored 30 304
+    ∷ clock 10100 ⇒ accepted
+    ∷ collects 1 ⇒ collected 3 Deadline (contra_row 298 45 ∷ row Sealed Other 2 1 298 45 0 ∷ row Sealed Other 3 1 304 10 20 ∷ [])
+    ∷ [])
+
 -- The list.
 abbrev pub RulesInRuns : Type 0
 RulesInRuns =
@@ -244,3 +274,5 @@ RulesInRuns =
     × WithdrawnFreesItsOwnNumber
     × CausesOfATickInTheirOrder
     × CrossedMarketEndsAnAuction
+    × FloorAboveStopBeforeContraBelowGuarantee
+    × NothingLackingAtTheInitiatingPrice

@@ -9,10 +9,10 @@ use Rattle.session.specs.Runs.{Answer, step, moment, run_from}
 use Rattle.session.proofs.Learning.Known.{Known, known, known_step}
 use Rattle.session.proofs.Learning.Steps.{follows}
 
-same_head : {X : Type 0} (x y : X) (xs ys : List X) → x ∷ xs ≡ y ∷ ys → x ≡ y
+pub same_head : {X : Type 0} (x y : X) (xs ys : List X) → x ∷ xs ≡ y ∷ ys → x ≡ y
 same_head x y xs ys h = cc
 
-same_tail : {X : Type 0} (x y : X) (xs ys : List X) → x ∷ xs ≡ y ∷ ys → xs ≡ ys
+pub same_tail : {X : Type 0} (x y : X) (xs ys : List X) → x ∷ xs ≡ y ∷ ys → xs ≡ ys
 same_tail x y xs ys h = cc
 
 module _ {P T F Q : Type 0} (w : World P T F Q) (u : ℕ) where

@@ -186,7 +186,7 @@ module _ {P T F Q : Type 0} (w : World P T F Q) (u : ℕ) where
       opening_by s o _ (room_refusal s.halted s.waiting) (permitted o.side o.limit (w.market.shows s.position)) (guarantee_refusal o s.opened)
 
 -- A collecting.
-is_number_follows : (u n : ℕ) (o : Option OpenAuction) → is_number_known n (option_map (known_auction u) o) ≡ is_number n o
+pub is_number_follows : (u n : ℕ) (o : Option OpenAuction) → is_number_known n (option_map (known_auction u) o) ≡ is_number n o
 is_number_follows u n None = refl
 is_number_follows u n (Some a) = refl
 

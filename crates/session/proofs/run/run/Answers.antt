@@ -9,7 +9,7 @@ use Rattle.session.specs.Sessions.{Session, session_answers, session_end, sessio
 use Rattle.session.specs.Told.{told}
 use Rattle.session.specs.Claims.{claims_to}
 use Rattle.session.proofs.ClaimsKept.{match_at_end}
-use Rattle.session.proofs.RunLaws.{laws_of_run}
+use Rattle.session.proofs.RunLaws.{laws_of_run, laws_of_session}
 use Rattle.session.proofs.SessionRuns.{answers_of_made, session_is}
 use Rattle.session.proofs.run.run.Goals as goal
 
@@ -45,4 +45,5 @@ returns g c =
             carries_on = g.met.R.Ranking.carries_on h.ranking;
           })
           h.number (g.M.Market.position h.market) (g.S.IntervalSource.position h.source) (made_of w g.M.Market.position g.S.IntervalSource.position h);
+      session_laws = laws_of_session w first calls;
     }

@@ -4,10 +4,9 @@ use Rattle.allocation.specs.declared.auction.Auction.{Auction}
 use Rattle.allocation.specs.declared.fill.FillRow.{FillRow}
 use Rattle.allocation.specs.declared.response.Key.{Key}
 use Rattle.allocation.specs.Auction.{auction_values, auction_fills, LevelsInRankingOrder}
-use Rattle.allocation.specs.FillLaws.{FillLaws}
 use Rattle.allocation.specs.Rankings.{by_key}
 use Rattle.allocation.specs.Table.{standing}
-use Rattle.allocation.proofs.FillProved.{terms_hold, fill_list_lawful, written_front, written_past, are_apart}
+use Rattle.allocation.proofs.FillProved.{Lawful, terms_hold, auction_lawful, written_front, written_past, are_apart}
 use Rattle.allocation.proofs.LevelFacts.{ordered_classes}
 use Rattle.allocation.proofs.auction.Auction.fill.Goals as goal
 
@@ -28,7 +27,8 @@ returns-clause-laws g c =
     let a = c.args.self.now in
     let ahead = by_key (g.R.Ranking.ahead c.args.ranking.now) in
     let fs : List FillRow = auction_fills ahead (auction_values a) in
-    let laws = fill_list_lawful ahead a.order a.floor a.initiating (standing a.table) (terms_hold a.order a.floor a.initiating a.terms) a.responses in
+    let laws = auction_lawful ahead a.order a.floor a.initiating (standing a.table) (terms_hold a.order a.floor a.initiating a.terms) a.responses in
     let front : take c.write_fills.result c.write_fills.new.rows ≡ fs = written_front fs c.args.rows.now c.write_fills.new.rows c.write_fills.result c.write_fills.ensures.count c.write_fills.ensures.rows in
     let past = written_past fs c.args.rows.now c.write_fills.new.rows c.write_fills.result c.write_fills.ensures.count c.write_fills.ensures.rows in
-    (subst (FillLaws a.order.side a.order.size a.floor a.initiating (standing a.table)) (sym front) laws, past.0, past.1, omega arith)
+    let written = subst (Lawful a.order a.floor a.initiating (standing a.table)) (sym front) laws in
+    (written.of_fills, written.of_contra, written.only, past.0, past.1, omega arith)

@@ -1,0 +1,110 @@
+// A run that is handed a claim of another room.
+ghost use Rattle.std.specs.Prelude.{◌≡◌, [], ◌∷◌, map, vec_items, IfOk};
+ghost use Rattle.room.specs.Rooms.{claim_numbers};
+ghost use Rattle.session.specs.declared.calls.Call.TheVariants.{Collect};
+ghost use Rattle.session.specs.Claims.{claim_to};
+
+use crate::answer::{Told, verdict};
+use crate::claims::{Opened, open_in, settle, show_collected};
+use crate::made::{TouchAnswer, TouchCall, collecting_in};
+use allocation::rankings::EarlierArrival;
+use interval::fixed::FixedInterval;
+use market::touch::Touch;
+use room::claim::Claim;
+use session::handed::{Finished, Handed};
+use session::run::run;
+use std::alloc::{AllocError, Global};
+use std::io;
+
+// The claim 1 of room 1, and one of room 2 that nobody holds.
+fn calls(heap: Global) -> Result<Vec<TouchCall>, AllocError>
+    ensures { IfOk result (λ calls. vec_items calls ≡ Collect (claim_to 1 1) 129 ∷ (Collect (claim_to 2 1) 129 ∷ [])) }
+{
+    let mut calls = Vec::with_capacity(heap, 2)?;
+    calls.push_reserved(collecting_in(1, 1));
+    calls.push_reserved(collecting_in(2, 1));
+    Ok(calls)
+}
+
+// The only claim of a purse.
+fn only(purse: Vec<Claim>) -> Claim
+    requires { map claim_numbers (vec_items purse) ≡ claim_to 1 1 ∷ [] }
+    ensures { claim_numbers result ≡ claim_to 1 1 }
+{
+    let mut purse = purse;
+    let claim = purse.pop().unwrap();
+    purse.destroy_empty();
+    claim
+}
+
+// The run of room 2 with a purse that has the claim of room 1: what it answers, and the claim.
+fn run_with(
+    heap: Global,
+    calls: Vec<TouchCall>,
+    purse: Vec<Claim>,
+    source: FixedInterval,
+) -> (Option<Vec<TouchAnswer>>, Claim)
+    requires calls { vec_items calls ≡ Collect (claim_to 1 1) 129 ∷ (Collect (claim_to 2 1) 129 ∷ []) }
+    requires purse { map claim_numbers (vec_items purse) ≡ claim_to 1 1 ∷ [] }
+    ensures { claim_numbers result.1 ≡ claim_to 1 1 }
+{
+    let handed = Handed {
+        number: 2,
+        market: Touch::new(),
+        ranking: EarlierArrival,
+        source,
+        calls,
+        purse,
+    };
+    match run(heap, handed) {
+        Ok(finished) => {
+            let Finished {
+                answers,
+                room: _,
+                purse,
+            } = finished;
+            (Some(answers), only(purse))
+        }
+        Err(back) => {
+            let Handed {
+                number: _,
+                market: _,
+                ranking: _,
+                source: _,
+                calls: _,
+                purse,
+            } = back;
+            (None, only(purse))
+        }
+    }
+}
+
+fn show_answers(rt: &HostRuntime, answers: &Option<Vec<TouchAnswer>>) -> io::Result<()> {
+    let Some(list) = answers else {
+        return println!(rt; "    memory was wanting{}", verdict(false));
+    };
+    for answer in list.iter() {
+        println!(rt; "    {}", Told(answer))?;
+    }
+    Ok(())
+}
+
+pub fn work(rt: &HostRuntime) -> io::Result<()> {
+    let Ok(source) = FixedInterval::new(100) else {
+        return println!(rt; "no interval");
+    };
+    println!(rt;
+        "A run of room 2, handed the claim of room 1: that claim, and one that nobody holds:"
+    )?;
+    let heap = rt.alloc();
+    let calls = calls(heap)?;
+    let places = Vec::with_capacity(heap, 1)?;
+    let Opened { room, claim } = open_in(1, source);
+    let mut own = room;
+    let mut purse = places;
+    purse.push_reserved(claim);
+    let (answers, claim) = run_with(heap, calls, purse, source);
+    let told = settle(&mut own, claim);
+    show_answers(rt, &answers)?;
+    show_collected(rt, told)
+}

@@ -1,0 +1,130 @@
+-- The claims that are held go on by what a member knows: an accepted opening adds the claim of the next number, and
+-- whether a collecting is accepted follows from which auctions wait.
+use Rattle.std.proofs.Common.{◌≡◌, ◌⊎◌, inl, inr, ℕ, ◌+◌, Bool, true, false, cond, not, eqb, List, [], ◌∷◌, ◌++◌, is_some, Some, None, Ok, Err, Option, Result, sym, refl, ap, ◌∙◌, max}
+use Rattle.std.specs.Option.{option_map}
+use Rattle.allocation.specs.declared.cause.EndCause.TheVariants.{Deadline}
+use Rattle.allocation.specs.declared.fill.FillRow.{FillRow}
+use Rattle.room.specs.declared.answers.ClaimNumbers.{ClaimNumbers}
+use Rattle.room.specs.declared.answers.Collection.{Collection}
+use Rattle.room.specs.declared.refusal.Refusal.{Refusal}
+use Rattle.room.specs.declared.requests.OpeningRequest.{OpeningRequest}
+use Rattle.room.specs.Checks.{collect_checks}
+use Rattle.room.specs.Clock.{due}
+use Rattle.room.specs.Collecting.{waiting_now, collect_rows}
+use Rattle.room.specs.Refusals.{refuse, unless, outcome}
+use Rattle.room.specs.State.{EndedAuction, RoomState, is_number, numbered, at_time, ended}
+use Rattle.room.specs.World.{World}
+use Rattle.room.proofs.Tests.{none_some}
+use Rattle.session.specs.declared.calls.Call.{Call}
+use Rattle.session.specs.declared.calls.Call.TheVariants.{Open, Respond, Change, Withdraw, Tick, Halt, Resume, Clock, Look, Collect}
+use Rattle.session.specs.Claims.{claim_to}
+use Rattle.session.specs.History.{opened_number, is_collected}
+use Rattle.session.specs.Learning.{hidden_from, opens_here}
+use Rattle.session.specs.Runs.{Answer, Opened, Stored, Accepted, Looked, Collected, Refused, answered, clock_stepped, moment, step}
+use Rattle.session.specs.Sessions.{claim_in, without_claim, purse_after, is_made}
+use Rattle.session.proofs.Ending.Shapes.{OpenedHere, opened_or_not, did}
+use Rattle.session.proofs.Learning.Known.{Known, known, numbers, numbered_known, waiting_known, collectable_known}
+use Rattle.session.proofs.Learning.OthersCalls.{is_number_follows}
+use Rattle.session.proofs.Learning.OwnRows.{numbered_follows}
+
+-- What is accepted.
+abbrev is_ok : {X R : Type 0} → Result X R → Bool
+is_ok (Ok x) = true
+is_ok (Err e) = false
+
+-- The claim that an opening adds, where it is said whether it is accepted.
+abbrev claim_known : {P Q : Type 0} → Bool → Known P Q → List ClaimNumbers
+claim_known opens k = cond opens (claim_to k.number (k.opened + 1) ∷ []) []
+
+-- The purse after a call that is made.
+abbrev pub purse_known : {P T Q : Type 0} → (F : Type 0) → Bool → Known P Q → Call T → List ClaimNumbers → List ClaimNumbers
+purse_known F opens k (Open x) purse = purse ++ claim_known opens k
+purse_known F opens k (Respond x) purse = purse
+purse_known F opens k (Change x) purse = purse
+purse_known F opens k (Withdraw x) purse = purse
+purse_known F opens k (Tick t x) purse = purse
+purse_known F opens k (Halt t) purse = purse
+purse_known F opens k (Resume t) purse = purse
+purse_known F opens k (Clock t) purse = purse
+purse_known F opens k Look purse = purse
+purse_known F opens k (Collect c n) purse = cond (is_ok (collectable_known {F = F} k c n)) (without_claim c purse) purse
+
+-- What is hidden does not tell whether a call is made.
+pub hidden_made : {T : Type 0} (u : ℕ) (c : Call T) (purse : List ClaimNumbers) → is_made (hidden_from u c) purse ≡ is_made c purse
+hidden_made u (Open x) purse = refl
+hidden_made u (Respond x) purse = refl
+hidden_made u (Change x) purse = refl
+hidden_made u (Withdraw x) purse = refl
+hidden_made u (Tick t x) purse = refl
+hidden_made u (Halt t) purse = refl
+hidden_made u (Resume t) purse = refl
+hidden_made u (Clock t) purse = refl
+hidden_made u Look purse = refl
+hidden_made u (Collect c n) purse = refl
+
+-- An answer that opens nothing has no claim.
+no_claim_in : {F : Type 0} (a : Answer F) → opened_number a ≡ None → claim_in a ≡ []
+no_claim_in (Opened c) h = none_some c.auction (sym h)
+no_claim_in (Stored x) h = refl
+no_claim_in Accepted h = refl
+no_claim_in (Looked v) h = refl
+no_claim_in (Collected k fs) h = refl
+no_claim_in (Refused e) h = refl
+
+-- The clock step leaves the room's number and how many auctions were opened, and so the claim of the next opening.
+module _ {P Q : Type 0} where
+  abbrev next_claim : RoomState P Q → ClaimNumbers
+  next_claim s = claim_to s.number (s.opened + 1)
+
+  due_leaves : (b : Bool) (s : RoomState P Q) → next_claim (cond b (ended Deadline s) s) ≡ next_claim s
+  due_leaves true s = refl
+  due_leaves false s = refl
+
+  stepped_leaves : {R : Type 0} (r : Option R) (t : Option ℕ) (s : RoomState P Q) → next_claim (clock_stepped r t s) ≡ next_claim s
+  stepped_leaves (Some e) t s = refl
+  stepped_leaves None None s = refl
+  stepped_leaves None (Some t) s = due_leaves (due (max s.time t) s.current) (at_time (max s.time t) s)
+
+module _ {P T F Q : Type 0} (w : World P T F Q) (u : ℕ) (s : RoomState P Q) where
+  -- An opening.
+  opening_adds_by : (x : OpeningRequest) → let m = moment w s (Open x) in
+      OpenedHere w m ⊎ (opened_number m.answer ≡ None) → claim_in m.answer ≡ claim_known (opens_here m) (known u s)
+  opening_adds_by x (inl d) =
+      ap (λ (a : Answer F). claim_in a) d.answer_is
+      ∙ ap (λ c. c ∷ []) (stepped_leaves _ (Some x.time) s)
+      ∙ sym (ap (λ (a : Answer F). claim_known (is_some (opened_number a)) (known u s)) d.answer_is)
+  opening_adds_by x (inr h) =
+      no_claim_in (moment w s (Open x)).answer h ∙ sym (ap (λ o. claim_known (is_some o) (known u s)) h)
+
+  opening_adds : (x : OpeningRequest) → claim_in (step w s (Open x)).1 ≡ claim_known (opens_here (moment w s (Open x))) (known u s)
+  opening_adds x = opening_adds_by x (opened_or_not w (moment w s (Open x)) (did w s (Open x)))
+
+  -- A collecting.
+  collects_by : (a b : Option (Refusal F)) (o : Option EndedAuction) (effect : EndedAuction → RoomState P Q) (tells : EndedAuction → Collection) (fs : List FillRow)
+      → is_collected (answered (λ k. Collected k fs) (outcome (unless a (unless b (waiting_now {F = F} o))) s effect tells).1)
+      ≡ is_ok (unless a (unless b (waiting_known {F = F} (option_map (λ (e : EndedAuction). e.number) o))))
+  collects_by (Some f) b o effect tells fs = refl
+  collects_by None (Some f) o effect tells fs = refl
+  collects_by None None None effect tells fs = refl
+  collects_by None None (Some e) effect tells fs = refl
+
+  collecting_known : (c : ClaimNumbers) (n : ℕ) → is_collected (step w s (Collect c n)).1 ≡ is_ok (collectable_known {F = F} (known u s) c n)
+  collecting_known c n =
+      let a : Option (Refusal F) = collect_checks n in
+      let b : Bool → Option (Refusal F) = λ i. refuse (not (eqb c.room s.number)) 42 (refuse i 41 None) in
+      collects_by a (b (is_number c.auction s.current)) (numbered c.auction s.waiting) _ _ (collect_rows w s c n)
+      ∙ ap (λ o. is_ok (unless a (unless (b (is_number c.auction s.current)) (waiting_known {F = F} o)))) (sym (numbered_follows c.auction s.waiting))
+      ∙ ap (λ i. is_ok (unless a (unless (b i) (waiting_known {F = F} (numbered_known c.auction (numbers s.waiting)))))) (sym (is_number_follows u c.auction s.current))
+
+  -- Every call.
+  pub claims_follow : (c : Call T) (purse : List ClaimNumbers) → purse_after c (step w s c).1 purse ≡ purse_known F (opens_here (moment w s c)) (known u s) (hidden_from u c) purse
+  claims_follow (Open x) purse = ap (λ l. purse ++ l) (opening_adds x)
+  claims_follow (Respond x) purse = refl
+  claims_follow (Change x) purse = refl
+  claims_follow (Withdraw x) purse = refl
+  claims_follow (Tick t x) purse = refl
+  claims_follow (Halt t) purse = refl
+  claims_follow (Resume t) purse = refl
+  claims_follow (Clock t) purse = refl
+  claims_follow Look purse = refl
+  claims_follow (Collect c n) purse = ap (λ (b : Bool). cond b (without_claim c purse) purse) (collecting_known c n)
