@@ -4,7 +4,7 @@
 mod command_line;
 
 use command_line::{Day, Task, USAGE};
-use day::transcript::{Transcript, transcript_of};
+use day::transcript::{Transcript, transcript_for, whole_transcript};
 use script::explain::Explanation;
 use std::io::Read;
 use std::process::ExitCode;
@@ -25,10 +25,13 @@ fn bytes_of(rt: &HostRuntime, file: Option<&str>) -> io::Result<Vec<u8>> {
     }
 }
 
-// Carries out the script. What is no text in it is in no word that is understood.
+// Carries out the script. Bytes of it that are no text are in no word that is understood.
 fn carry_out(rt: &HostRuntime, bytes: &[u8], member: Option<u8>) -> io::Result<ExitCode> {
     let script = String::from_utf8_lossy(rt.alloc(), bytes)?;
-    let Transcript { text, understood } = transcript_of(rt.alloc(), &script, member)?;
+    let Transcript { text, understood } = match member {
+        Some(member) => transcript_for(rt.alloc(), &script, member)?,
+        None => whole_transcript(rt.alloc(), &script)?,
+    };
     rt.print(text)?;
     Ok(if understood {
         ExitCode::SUCCESS

@@ -15,7 +15,7 @@ use Rattle.script.specs.declared.chosen.ChosenInterval.{ChosenInterval}
 use Rattle.script.specs.declared.setup.RoomTerms.{RoomTerms}
 use Rattle.session.specs.declared.calls.Call.{Call}
 use Rattle.session.specs.Desks.{listed_told, told_at_close}
-use Rattle.session.specs.Laws.{LawsOfRun}
+use Rattle.session.specs.Laws.{LawsOfRun, LawsOfSession}
 use Rattle.session.specs.Sessions.{Session, session_of, session_answers, session_end, calls_made}
 use Rattle.session.specs.Told.{told}
 
@@ -34,3 +34,5 @@ pub record CarriedOut (terms : RoomTerms) (calls : List (Call (Half Quote LegTic
   pub at_end : listed_told o.closed.first o.closed.second ≡ told_at_close (world_in terms) (session_end (world_in terms) (at_first terms) calls).room
   -- Every law holds of the run of the calls that were made.
   pub laws : LawsOfRun (world_in terms) terms.number (cube_start (legs_of terms.legs)) terms.source (calls_made (world_in terms) (at_first terms) calls)
+  -- And every law of the session holds, of all the calls: what a member may learn of them.
+  pub session_laws : LawsOfSession (world_in terms) (at_first terms) calls

@@ -3,5 +3,7 @@
 
 mod calls;
 pub mod lines;
+mod member;
 pub mod outcome;
 pub mod transcript;
+mod whole;

@@ -63,9 +63,7 @@ fn said_in(setup: &mut Setup, line: &str) -> Option<Said>
 {
     match read_statement(line) {
         Ok(statement) => Some(said_by(setup, statement?)),
-        Err(misread) => Some(Said::Replied(Reply::NotUnderstood(NotUnderstood::from(
-            misread,
-        )))),
+        Err(misread) => Some(Said::Replied(Reply::NotUnderstood(NotUnderstood::from(misread)))),
     }
 }
 

@@ -1,5 +1,5 @@
 // A script with its transcript, and how the one is held to the other.
-use day::transcript::{Transcript, transcript_of};
+use day::transcript::{Transcript, transcript_for, whole_transcript};
 use std::{fs, io};
 
 // Two files by their names, without endings: the script, and the transcript that it has to give; and for whose eyes that is, if
@@ -87,7 +87,10 @@ impl Example {
         } = *self;
         let text = fs::read_to_string(rt, format!(in rt.alloc(); "{script}.txt")?)?;
         let want = fs::read_to_string(rt, format!(in rt.alloc(); "{transcript}.out")?)?;
-        let got = transcript_of(rt.alloc(), &text, member)?;
+        let got = match member {
+            Some(member) => transcript_for(rt.alloc(), &text, member)?,
+            None => whole_transcript(rt.alloc(), &text)?,
+        };
         print!(rt; "{script}")?;
         if let Some(number) = member {
             print!(rt; ", for member {number}")?;

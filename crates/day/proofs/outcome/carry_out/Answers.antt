@@ -6,7 +6,7 @@ use Rattle.script.specs.Chosen.{chosen_ahead, chosen_meaning}
 use Rattle.script.specs.declared.chosen.ChosenInterval.{ChosenInterval}
 use Rattle.script.specs.declared.chosen.ChosenRanking.{ChosenRanking}
 use Rattle.session.specs.Desks.{told_at_close}
-use Rattle.session.specs.Laws.{LawsOfRun}
+use Rattle.session.specs.Laws.{LawsOfRun, LawsOfSession}
 use Rattle.session.specs.Sessions.{Session, session_of, session_answers, session_end, calls_made}
 use Rattle.day.specs.CarriedOut.{CarriedOut, world_in}
 use Rattle.day.proofs.outcome.carry_out.Goals as goal
@@ -24,8 +24,9 @@ returns-in-Ok c =
     record {
       answers = did.answers ∙ ap (λ p. session_answers w (at p) calls) made;
       at_end =
-        c.close.ensures.told
-        ∙ ap (λ (r : ChosenRanking). told_at_close (world_of cube_meaning chosen_meaning (chosen_ahead r)) (state held)) did.ranking
-        ∙ ap (λ s. told_at_close w s) (did.room ∙ ap (λ p. (session_end w (at p) calls).room) made);
+          c.close.ensures.told
+          ∙ ap (λ (r : ChosenRanking). told_at_close (world_of cube_meaning chosen_meaning (chosen_ahead r)) (state held)) did.ranking
+          ∙ ap (λ s. told_at_close w s) (did.room ∙ ap (λ p. (session_end w (at p) calls).room) made);
       laws = subst (λ p. LawsOfRun w terms.number p terms.source (calls_made w (at p) calls)) made did.laws;
+      session_laws = subst (λ p. LawsOfSession w (at p) calls) made did.session_laws;
     }

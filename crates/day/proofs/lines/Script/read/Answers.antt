@@ -15,11 +15,12 @@ loop-before-init c =
     let xs = c.deref-line-items.result.now in
     let collected = map_from_collect c.collect.result c.collect.ensures.ran (YieldsList-from_lines c.args.text.now c.lines.ensures.rest) in
     let held = subst (λ r. IfOk r (λ w. map (λ x. x.now) (vec_items w) ≡ lines c.args.text.now)) c.in_ok-all.was collected in
-    let all : map (λ x. x.now) xs ≡ lines c.args.text.now = ap (map (λ x. x.now)) c.deref-line-items.ensures.value ∙ held in
-    (ap (λ (x : List Line). x ++ lines_said (told_of c.new-setup.result) 1 (map (λ x. x.now) xs)) c.new-lines.ensures.items
-      ∙ ap (λ (t : Told). lines_said t 1 (map (λ x. x.now) xs)) c.new-setup.ensures
-      ∙ ap (lines_said nothing_told 1) all,
-     ap (λ (t : Told). told_behind_lines t (map (λ x. x.now) xs)) c.new-setup.ensures ∙ ap (told_behind_lines nothing_told) all)
+    let all : map (λ x. x.now) xs ≡ lines c.args.text.now = ap (map (λ x. x.now)) c.deref-line-items.ensures.value ∙ held in (
+      ap (λ (x : List Line). x ++ lines_said (told_of c.new-setup.result) 1 (map (λ x. x.now) xs)) c.new-lines.ensures.items
+          ∙ ap (λ (t : Told). lines_said t 1 (map (λ x. x.now) xs)) c.new-setup.ensures
+          ∙ ap (lines_said nothing_told 1) all,
+      ap (λ (t : Told). told_behind_lines t (map (λ x. x.now) xs)) c.new-setup.ensures ∙ ap (told_behind_lines nothing_told) all,
+    )
 
 pub loop-before-preserved : goal.loop-before-preserved
 loop-before-preserved c =
@@ -30,10 +31,11 @@ loop-before-preserved c =
     let inside : (i < length xs) = omega arith in
     let did = c.in_ok-read_line.ensures in
     let t = told_of c.loop-before.setup in
-    let u = told_of c.read_line.new.setup in
-    (one_read (λ x. x.now) xs i (record { ref_ptr = (0, 0); now = [] }) c.loop-before.lines.items c.read_line.new.lines.items t u inside did.lines did.told
-      ∙ c.loop-before.invariant.0,
-     one_told (λ x. x.now) xs i (record { ref_ptr = (0, 0); now = [] }) t u inside did.told ∙ c.loop-before.invariant.1)
+    let u = told_of c.read_line.new.setup in (
+      one_read (λ x. x.now) xs i (record { ref_ptr = (0, 0); now = [] }) c.loop-before.lines.items c.read_line.new.lines.items t u inside did.lines did.told
+          ∙ c.loop-before.invariant.0,
+      one_told (λ x. x.now) xs i (record { ref_ptr = (0, 0); now = [] }) t u inside did.told ∙ c.loop-before.invariant.1,
+    )
 
 pub returns-clause-lines : goal.returns-clause-lines
 returns-clause-lines c =
