@@ -1,1 +1,2 @@
 mod LinesRead
+mod Alike

@@ -1,5 +1,5 @@
 -- Lines that are read one by one say what all of them say.
-use Rattle.std.proofs.Common.{◌≡◌, ◌++◌, ◌∙◌, ap, sym, subst, refl, map, drop, ℕ, ◌+◌, ◌<◌, length, get_or, List, ◌∷◌, Result, Ok, Err}
+use Rattle.std.proofs.Common.{◌≡◌, ◌++◌, ◌∙◌, ap, sym, refl, map, drop, ℕ, ◌+◌, ◌<◌, length, get_or, List, ◌∷◌, Result, Ok, Err}
 use Rattle.std.proofs.lemmas.List.{append_assoc, at_drop_more}
 use Rattle.std.specs.Option.{option_map}
 use Rattle.std.specs.Result.{result_ok}

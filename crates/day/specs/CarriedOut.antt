@@ -1,5 +1,5 @@
 -- What carrying out the calls of a script comes to.
-use Rattle.std.specs.Prelude.{◌≡◌, ℕ, List, [], map, vec_items}
+use Rattle.std.specs.Prelude.{◌≡◌, List, [], map, vec_items}
 use Rattle.day.specs.declared.outcome.Outcome.{Outcome}
 use Rattle.market.specs.Cube.{CubePosition, cube_meaning, cube_start}
 use Rattle.market.specs.declared.better_of.Half.{Half}

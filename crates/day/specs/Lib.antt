@@ -3,3 +3,4 @@ pub mod Lines
 pub mod Calls
 pub mod CarriedOut
 pub mod ForMember
+pub mod Alike

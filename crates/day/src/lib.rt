@@ -2,6 +2,7 @@
 #![tactic(auto)]
 
 mod calls;
+pub mod laws;
 pub mod lines;
 mod member;
 pub mod outcome;

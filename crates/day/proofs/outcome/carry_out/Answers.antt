@@ -1,4 +1,4 @@
-use Rattle.std.proofs.Common.{◌≡◌, ◌∙◌, ap, subst, List, []}
+use Rattle.std.proofs.Common.{◌∙◌, ap, subst, []}
 use Rattle.market.specs.Cube.{CubePosition, cube_meaning, cube_position}
 use Rattle.room.specs.Rooms.{state_of, world_of}
 use Rattle.room.specs.State.{new_room}
@@ -8,7 +8,7 @@ use Rattle.script.specs.declared.chosen.ChosenRanking.{ChosenRanking}
 use Rattle.session.specs.Desks.{told_at_close}
 use Rattle.session.specs.Laws.{LawsOfRun, LawsOfSession}
 use Rattle.session.specs.Sessions.{Session, session_of, session_answers, session_end, calls_made}
-use Rattle.day.specs.CarriedOut.{CarriedOut, world_in}
+use Rattle.day.specs.CarriedOut.{world_in}
 use Rattle.day.proofs.outcome.carry_out.Goals as goal
 
 pub returns-in-Ok : goal.returns-in-Ok

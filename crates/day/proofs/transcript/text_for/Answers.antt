@@ -1,4 +1,4 @@
-use Rattle.std.proofs.Common.{◌≡◌, ◌++◌, ◌∙◌, ap, subst, string_bytes, vec_items}
+use Rattle.std.proofs.Common.{◌++◌, ◌∙◌, ap, subst}
 use Rattle.day.specs.CarriedOut.{CarriedOut}
 use Rattle.day.specs.ForMember.{text_for}
 use Rattle.day.proofs.transcript.text_for.Goals as goal

@@ -1,9 +1,8 @@
 -- What the lines that were read say, with what those say that are still to be read, is what all of them say.
-use Rattle.std.proofs.Common.{◌≡◌, ◌++◌, IfOk, OnOk, [], map, drop, ℕ, ◌+◌, ◌-◌, ◌*◌, ◌<◌, ◌≤◌, length}
-use Rattle.std.specs.Option.{option_map}
+use Rattle.std.proofs.Common.{◌≡◌, ◌++◌, map, drop, ◌+◌}
 use Rattle.std.specs.Str.Lines.{lines}
-use Rattle.script.specs.Setups.{told_of, nothing_told, room_in, room_told, told_after_call}
-use Rattle.day.specs.Lines.{in_room, said_by, told_behind, said_in, told_behind_line, numbered, lines_said, told_behind_lines, room_of}
+use Rattle.script.specs.Setups.{told_of, nothing_told}
+use Rattle.day.specs.Lines.{lines_said, told_behind_lines}
 use Rattle.day.proofs.lines.Script.read.Given as goal
 
 abbrev pub invariant-loop-before : goal.invariant-loop-before
