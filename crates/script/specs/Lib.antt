@@ -12,5 +12,6 @@ pub mod Ranges
 pub mod Texts
 pub mod Replies
 pub mod Shown
+pub mod Explained
 pub mod Writing
 pub mod Held

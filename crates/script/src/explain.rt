@@ -1,5 +1,6 @@
 // Every refusal number, cause letter and fault cause, each with its meaning.
 ghost use Rattle.std.specs.Prelude.{◌≡◌, true, is_some};
+ghost use Rattle.script.specs.Explained.{is_refusal_number};
 ghost use Rattle.interval.specs.declared.refusal.IntervalRefusal.{IntervalRefusal};
 ghost use Rattle.interval.specs.Refusals.{interval_refusal_number};
 ghost use Rattle.market.specs.declared.better_of.Half.{Half};
@@ -16,6 +17,7 @@ use std::fmt;
 
 // What a refusal's number means, if a script can be answered it.
 pub fn refusal_meaning(number: u8) -> Option<&'static str>
+    ensures those { is_some result ≡ is_refusal_number number }
     ensures of_rooms { (e : Refusal (Half Fault Fault)) → number ≡ refusal_number e → is_some result ≡ true }
     ensures of_ranges { (e : RangeRefusal) → number ≡ range_number e → is_some result ≡ true }
     ensures of_legs { (e : SetupRefusal) → number ≡ setup_number e → is_some result ≡ true }

@@ -94,25 +94,4 @@ impl CallStatement {
             },
         }
     }
-
-    // The same, of a statement that is used up.
-    pub fn into_call(self, room: u32) -> Call<CubeTick>
-        ensures { result ≡ call_of room self }
-    {
-        match self {
-            CallStatement::Open(request) => Call::Open(request),
-            CallStatement::Respond(request) => Call::Respond(request),
-            CallStatement::Change(request) => Call::Change(request),
-            CallStatement::Withdraw(request) => Call::Withdraw(request),
-            CallStatement::Tick { time, tick } => Call::Tick { time, tick },
-            CallStatement::Halt { time } => Call::Halt { time },
-            CallStatement::Resume { time } => Call::Resume { time },
-            CallStatement::Clock { time } => Call::Clock { time },
-            CallStatement::Look => Call::Look,
-            CallStatement::Collect { auction, rows } => Call::Collect {
-                claim: ClaimNumbers { room, auction },
-                rows,
-            },
-        }
-    }
 }
