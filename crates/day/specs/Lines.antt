@@ -1,17 +1,19 @@
 -- The lines of a script, and what each says.
-use Rattle.std.specs.Prelude.{ℕ, ◌+◌, List, [], ◌∷◌, ◌++◌, Option, Some, None, Result, Ok, Err}
+use Rattle.std.specs.Prelude.{Bool, true, false, ℕ, ◌+◌, List, [], ◌∷◌, ◌++◌, Option, Some, None, Result, Ok, Err}
+use Rattle.std.specs.List.{list_all}
+use Rattle.std.specs.Str.Lines.{lines}
 use Rattle.day.specs.declared.lines.Line.{Line}
 use Rattle.day.specs.declared.lines.Said.{Said}
 use Rattle.day.specs.declared.lines.Said.TheVariants as said
 use Rattle.script.specs.Grammar.{statement_in}
 use Rattle.script.specs.Replies.{setting_reply}
-use Rattle.script.specs.Setups.{Told, RoomTold, setting_answer, told_after, room_in, told_after_call}
+use Rattle.script.specs.Setups.{nothing_told, Told, RoomTold, setting_answer, told_after, room_in, told_after_call}
 use Rattle.script.specs.declared.misread.Misread.{Misread}
 use Rattle.script.specs.declared.setup.failure.Wanting.{Wanting}
 use Rattle.script.specs.declared.statement.Statement.{Statement}
 use Rattle.script.specs.declared.statement.Statement.TheVariants.{Setting, Call, Range}
 use Rattle.script.specs.declared.transcript.NotUnderstood.TheVariants as why
-use Rattle.script.specs.declared.transcript.Reply.TheVariants.{NotUnderstood}
+use Rattle.script.specs.declared.transcript.Reply.TheVariants.{Answered, SettingRefused, Permitted, RangeRefused, NotUnderstood}
 
 -- A call or a question, if there is a room for it; else what the room is wanting.
 abbrev pub in_room : Result RoomTold Wanting → Said → Said
@@ -67,3 +69,20 @@ told_behind_lines t (l ∷ ls) = told_behind_lines (told_behind_line t l) ls
 abbrev pub room_of : Result RoomTold Wanting → Option RoomTold
 room_of (Ok room) = Some room
 room_of (Err e) = None
+
+-- A line is understood if it is answered otherwise than by why it is not.
+abbrev pub is_understood : Said → Bool
+is_understood (said.Replied (NotUnderstood e)) = false
+is_understood (said.Replied (Answered a)) = true
+is_understood (said.Replied (SettingRefused e)) = true
+is_understood (said.Replied (Permitted r)) = true
+is_understood (said.Replied (RangeRefused e)) = true
+is_understood (said.Call c) = true
+is_understood (said.Range q) = true
+
+-- The lines of a script, all of them.
+abbrev pub script_lines : List ℕ → List Line
+script_lines script = lines_said nothing_told 1 (lines script)
+
+abbrev pub is_all_understood : List Line → Bool
+is_all_understood ls = list_all (λ l. is_understood l.said) ls

@@ -1,3 +1,4 @@
+-- What is known of a day on the market that is made of the legs holds of the room of these terms, and of its closing.
 use Rattle.std.proofs.Common.{◌∙◌, ap, subst, []}
 use Rattle.market.specs.Cube.{CubePosition, cube_meaning, cube_position}
 use Rattle.room.specs.Rooms.{state_of, world_of}

@@ -1,3 +1,4 @@
+-- The text is written of the answers that carrying out the calls came to.
 use Rattle.std.proofs.Common.{◌++◌, ◌∙◌, ap, subst}
 use Rattle.day.specs.CarriedOut.{CarriedOut}
 use Rattle.day.specs.ForMember.{text_for}

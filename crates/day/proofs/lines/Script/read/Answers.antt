@@ -1,3 +1,4 @@
+-- The lines that are read, and the room that is made of what they tell, are those of the whole text.
 use Rattle.std.proofs.Common.{arith, ◌≡◌, ◌++◌, ◌∙◌, ap, sym, subst, IfOk, vec_items, map, ◌+◌, ◌<◌, length, List, []}
 use Rattle.std.specs.Option.{option_map}
 use Rattle.std.specs.Str.Lines.{lines}
