@@ -1,0 +1,210 @@
+-- Scripts that are alike to a member have the same text for it. What a member reads is written of what it is shown at each
+-- call; and what it is shown is the same by the law of what a member may learn.
+use Rattle.std.proofs.Common.{◌≡◌, ◌++◌, ◌∙◌, ap, sym, subst, refl, ℕ, Bool, true, false, cond, List, [], ◌∷◌, map, codes, ◌==◌, is_some, Option, Some, None, vec_items}
+use Rattle.std.specs.Fmt.{decimal}
+use Rattle.std.specs.Option.{option_map}
+use Rattle.day.specs.declared.lines.Line.{Line}
+use Rattle.day.specs.declared.lines.Said.{Said}
+use Rattle.day.specs.declared.lines.Said.TheVariants.{Replied, Call, Range}
+use Rattle.day.specs.Alike.{SaidAlike, LinesAlike, MemberReadsTheSame}
+use Rattle.day.specs.Calls.{call_in, calls_in}
+use Rattle.day.specs.CarriedOut.{world_in, at_first}
+use Rattle.day.specs.ForMember.{transcript_line, answered_line, line_for, answers_behind, text_for}
+use Rattle.market.specs.Cube.{CubePosition}
+use Rattle.market.specs.declared.better_of.Half.{Half}
+use Rattle.market.specs.declared.fault.Fault.{Fault}
+use Rattle.market.specs.declared.legs.leg.LegTick.{LegTick}
+use Rattle.market.specs.declared.quote.Quote.{Quote}
+use Rattle.room.specs.World.{World}
+use Rattle.script.specs.declared.chosen.ChosenInterval.{ChosenInterval}
+use Rattle.script.specs.declared.statement.CallStatement.{CallStatement}
+use Rattle.script.specs.declared.statement.CallStatement.TheVariants as statement
+use Rattle.script.specs.Statements.{call_of}
+use Rattle.script.specs.Texts.{stored_text, view_text, refusal_text, collection_text, rows_text, answer_text}
+use Rattle.session.specs.declared.answers.Answer.{Answer as CodeAnswer}
+use Rattle.session.specs.declared.answers.Answer.TheVariants as code
+use Rattle.session.specs.declared.calls.Call.{Call as RoomCall}
+use Rattle.session.specs.Learning.{AllAlike}
+use Rattle.session.specs.Runs.{Answer, Moment, Opened, Stored, Accepted, Looked, Collected, Refused}
+use Rattle.session.specs.SessionLearning.{seen_if_made}
+use Rattle.session.specs.Sessions.{Session, session_after, session_moment, session_moments}
+use Rattle.session.specs.Told.{told}
+
+-- The text of an answer by what it tells.
+abbrev told_text : Option (Answer (Half Fault Fault)) → List ℕ
+told_text None = codes "no claim"
+told_text (Some (Opened c)) = codes "opened " ++ decimal c.auction
+told_text (Some (Stored s)) = codes "stored " ++ stored_text s
+told_text (Some Accepted) = codes "accepted"
+told_text (Some (Looked v)) = view_text v
+told_text (Some (Collected c rows)) = codes "collected " ++ collection_text c ++ rows_text rows
+told_text (Some (Refused e)) = codes "refused " ++ refusal_text e
+
+by_told : (a : CodeAnswer (Half Fault Fault)) → answer_text a ≡ told_text (told a)
+by_told (code.Opened c) = refl
+by_told (code.Stored s) = refl
+by_told code.Accepted = refl
+by_told (code.Looked v) = refl
+by_told (code.Collected c rows) = refl
+by_told (code.Refused e) = refl
+by_told code.NoClaim = refl
+
+-- The first and the others of a list, and what no list with a first is.
+abbrev head : List (Option (Answer (Half Fault Fault))) → Option (Answer (Half Fault Fault))
+head [] = None
+head (x ∷ xs) = x
+
+abbrev tail : List (Option (Answer (Half Fault Fault))) → List (Option (Answer (Half Fault Fault)))
+tail [] = []
+tail (x ∷ xs) = xs
+
+abbrev Empty : List (Option (Answer (Half Fault Fault))) → Type 0
+Empty [] = Unit {0}
+Empty (x ∷ xs) = ⊥
+
+-- The line of what is shown, if anything is.
+abbrev seen_line : ℕ → Option (Answer (Half Fault Fault)) → List ℕ
+seen_line n None = []
+seen_line n (Some a) = transcript_line n (told_text (Some a))
+
+abbrev any_answer : Answer (Half Fault Fault)
+any_answer = Accepted
+
+abbrev ACall : Type 0
+ACall = RoomCall (Half Quote LegTick)
+
+module _ (w : World CubePosition (Half Quote LegTick) (Half Fault Fault) ChosenInterval) where
+  abbrev AMoment : Type 0
+  AMoment = Moment CubePosition (Half Quote LegTick) (Half Fault Fault) ChosenInterval
+
+  abbrev answer_of : Option AMoment → Option (Answer (Half Fault Fault))
+  answer_of = option_map (λ (m : AMoment). m.answer)
+
+  -- Where a call is made, its line is that of what is shown.
+  cond_line : (b : Bool) (n : ℕ) (a : CodeAnswer (Half Fault Fault)) (x : Answer (Half Fault Fault))
+      → told a ≡ Some x
+      → cond (is_some (cond b (Some any_answer) None)) (transcript_line n (answer_text a)) [] ≡ seen_line n (cond b (Some x) None)
+  cond_line true n a x same = ap (transcript_line n) (by_told a ∙ ap told_text same)
+  cond_line false n a x same = refl
+
+  unseen : (b : Bool) (u n : ℕ) (m : AMoment) → seen_if_made u (Some m) ≡ None → [] ≡ seen_line n (seen_if_made u (cond b (Some m) None))
+  unseen true u n m none = ap (seen_line n) (sym none)
+  unseen false u n m none = refl
+
+  one_line : (u n room : ℕ) (s : Session CubePosition ChosenInterval) (c : CallStatement) (a : CodeAnswer (Half Fault Fault))
+      → told a ≡ answer_of (session_moment w s (call_of room c))
+      → answered_line u n c a ≡ seen_line n (seen_if_made u (session_moment w s (call_of room c)))
+  one_line u n room s (statement.Open x) a same = refl
+  one_line u n room s (statement.Respond x) a same = cond_line (x.member == u) n a _ same
+  one_line u n room s (statement.Change x) a same = cond_line (x.member == u) n a _ same
+  one_line u n room s (statement.Withdraw x) a same = cond_line (x.member == u) n a _ same
+  one_line u n room s (statement.Tick t x) a same = refl
+  one_line u n room s (statement.Halt t) a same = refl
+  one_line u n room s (statement.Resume t) a same = refl
+  one_line u n room s (statement.Clock t) a same = refl
+  one_line u n room s statement.Look a same = ap (transcript_line n) (by_told a ∙ ap told_text same)
+  one_line u n room s (statement.Collect auction rows) a same = unseen _ u n _ refl
+
+  -- The text of these lines, of what is shown at each call.
+  abbrev seen_behind : Said → List (Option (Answer (Half Fault Fault))) → List (Option (Answer (Half Fault Fault)))
+  seen_behind (Replied r) xs = xs
+  seen_behind (Range q) xs = xs
+  seen_behind (Call c) [] = []
+  seen_behind (Call c) (x ∷ xs) = xs
+
+  abbrev seen_at : ℕ → Said → List (Option (Answer (Half Fault Fault))) → List ℕ
+  seen_at n (Replied r) xs = []
+  seen_at n (Range q) xs = []
+  seen_at n (Call c) [] = []
+  seen_at n (Call c) (x ∷ xs) = seen_line n x
+
+  abbrev seen_text : List Line → List (Option (Answer (Half Fault Fault))) → List ℕ
+  seen_text [] xs = []
+  seen_text (l ∷ ls) xs = seen_at l.number l.said xs ++ seen_text ls (seen_behind l.said xs)
+
+  abbrev moments : ℕ → Session CubePosition ChosenInterval → List Line → List (Option AMoment)
+  moments room s ls = session_moments w s (calls_in room ls)
+
+  -- What is to be shown of all lines, from any session on.
+  abbrev AsSeen : ℕ → ℕ → List Line → Type 0
+  AsSeen u room ls =
+      (s : Session CubePosition ChosenInterval) (answers : List (CodeAnswer (Half Fault Fault)))
+      → map told answers ≡ map answer_of (moments room s ls)
+      → text_for u ls answers ≡ seen_text ls (map (seen_if_made u) (moments room s ls))
+
+  one_more : (u n room : ℕ) (ls : List Line) (x : Said) → AsSeen u room ls
+      → (s : Session CubePosition ChosenInterval) (answers : List (CodeAnswer (Half Fault Fault)))
+      → map told answers ≡ map answer_of (session_moments w s (call_in room x ++ calls_in room ls))
+      → line_for u n x answers ++ text_for u ls (answers_behind x answers)
+      ≡ seen_at n x (map (seen_if_made u) (session_moments w s (call_in room x ++ calls_in room ls)))
+      ++ seen_text ls (seen_behind x (map (seen_if_made u) (session_moments w s (call_in room x ++ calls_in room ls))))
+  one_more u n room ls (Replied r) rest s answers same = rest s answers same
+  one_more u n room ls (Range q) rest s answers same = rest s answers same
+  one_more u n room ls (Call c) rest s [] same = absurd (subst Empty same tt)
+  one_more u n room ls (Call c) rest s (a ∷ answers) same =
+      ap (λ x. x ++ text_for u ls answers) (one_line u n room s c a (ap head same))
+      ∙ ap (λ x. seen_line n (seen_if_made u (session_moment w s (call_of room c))) ++ x) (rest (session_after w s (call_of room c)) answers (ap tail same))
+
+  all_lines : (u room : ℕ) (ls : List Line) → AsSeen u room ls
+  all_lines u room [] s answers same = refl
+  all_lines u room (l ∷ ls) s answers same = one_more u l.number room ls l.said (all_lines u room ls) s answers same
+
+  -- Alike lines have the same text of what is shown.
+  one_alike : (u room n : ℕ) (x y : Said) (xs : List (Option (Answer (Half Fault Fault)))) → SaidAlike u room x y
+      → (seen_at n x xs ≡ seen_at n y xs) × (seen_behind x xs ≡ seen_behind y xs)
+  one_alike u room n (Call c) (Call d) [] alike = (refl, refl)
+  one_alike u room n (Call c) (Call d) (x ∷ xs) alike = (refl, refl)
+  one_alike u room n (Call c) (Replied s) xs alike = absurd alike
+  one_alike u room n (Call c) (Range q) xs alike = absurd alike
+  one_alike u room n (Replied r) (Call d) xs alike = absurd alike
+  one_alike u room n (Replied r) (Replied s) xs alike = (refl, refl)
+  one_alike u room n (Replied r) (Range q) xs alike = (refl, refl)
+  one_alike u room n (Range p) (Call d) xs alike = absurd alike
+  one_alike u room n (Range p) (Replied s) xs alike = (refl, refl)
+  one_alike u room n (Range p) (Range q) xs alike = (refl, refl)
+
+  same_text : (u room : ℕ) (ls ms : List Line) (xs : List (Option (Answer (Half Fault Fault)))) → LinesAlike u room ls ms
+      → seen_text ls xs ≡ seen_text ms xs
+  same_text u room [] [] xs alike = refl
+  same_text u room [] (m ∷ ms) xs alike = absurd alike
+  same_text u room (l ∷ ls) [] xs alike = absurd alike
+  same_text u room (l ∷ ls) (m ∷ ms) xs alike =
+      let one = one_alike u room l.number l.said m.said xs alike.1 in
+      ap (λ x. x ++ seen_text ls (seen_behind l.said xs)) (one.0 ∙ ap (λ n. seen_at n m.said xs) alike.0)
+      ∙ ap (λ ys. seen_at m.number m.said xs ++ seen_text ls ys) one.1
+      ∙ ap (λ x. seen_at m.number m.said xs ++ x) (same_text u room ls ms (seen_behind m.said xs) alike.2)
+
+-- The calls of alike lines are alike.
+calls_with : (u room : ℕ) (x y : Said) (cs ds : List ACall) → SaidAlike u room x y → AllAlike u cs ds
+    → AllAlike u (call_in room x ++ cs) (call_in room y ++ ds)
+calls_with u room (Call c) (Call d) cs ds alike rest = (alike, rest)
+calls_with u room (Call c) (Replied s) cs ds alike rest = absurd alike
+calls_with u room (Call c) (Range q) cs ds alike rest = absurd alike
+calls_with u room (Replied r) (Call d) cs ds alike rest = absurd alike
+calls_with u room (Replied r) (Replied s) cs ds alike rest = rest
+calls_with u room (Replied r) (Range q) cs ds alike rest = rest
+calls_with u room (Range p) (Call d) cs ds alike rest = absurd alike
+calls_with u room (Range p) (Replied s) cs ds alike rest = rest
+calls_with u room (Range p) (Range q) cs ds alike rest = rest
+
+calls_alike : (u room : ℕ) (ls ms : List Line) → LinesAlike u room ls ms → AllAlike u (calls_in room ls) (calls_in room ms)
+calls_alike u room [] [] alike = tt
+calls_alike u room [] (m ∷ ms) alike = absurd alike
+calls_alike u room (l ∷ ls) [] alike = absurd alike
+calls_alike u room (l ∷ ls) (m ∷ ms) alike =
+    calls_with u room l.said m.said (calls_in room ls) (calls_in room ms) alike.1 (calls_alike u room ls ms alike.2)
+
+pub reads_the_same : MemberReadsTheSame
+reads_the_same u terms ls ms text other one two alike opens ends =
+    let w = world_in terms in
+    let room = terms.number in
+    let first = at_first terms in
+    let laws = one.carried_out.session_laws in
+    let others = two.carried_out.session_laws in
+    let seen = laws.learning u (calls_in room ms) (calls_alike u room ls ms alike) opens ends in
+    one.written
+    ∙ all_lines w u room ls first (vec_items one.outcome.answers) (one.carried_out.answers ∙ laws.answers)
+    ∙ ap (seen_text w ls) seen.shown
+    ∙ same_text w u room ls ms (map (seen_if_made u) (moments w room first ms)) alike
+    ∙ sym (all_lines w u room ms first (vec_items two.outcome.answers) (two.carried_out.answers ∙ others.answers))
+    ∙ sym two.written

@@ -1,0 +1,2 @@
+mod LinesRead
+mod Alike

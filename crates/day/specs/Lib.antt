@@ -1,0 +1,6 @@
+-- What a day's script says and comes to, a file a topic.
+pub mod Lines
+pub mod Calls
+pub mod CarriedOut
+pub mod ForMember
+pub mod Alike

@@ -1,0 +1,88 @@
+-- The lines of a script, and what each says.
+use Rattle.std.specs.Prelude.{Bool, true, false, ℕ, ◌+◌, List, [], ◌∷◌, ◌++◌, Option, Some, None, Result, Ok, Err}
+use Rattle.std.specs.List.{list_all}
+use Rattle.std.specs.Str.Lines.{lines}
+use Rattle.day.specs.declared.lines.Line.{Line}
+use Rattle.day.specs.declared.lines.Said.{Said}
+use Rattle.day.specs.declared.lines.Said.TheVariants as said
+use Rattle.script.specs.Grammar.{statement_in}
+use Rattle.script.specs.Replies.{setting_reply}
+use Rattle.script.specs.Setups.{nothing_told, Told, RoomTold, setting_answer, told_after, room_in, told_after_call}
+use Rattle.script.specs.declared.misread.Misread.{Misread}
+use Rattle.script.specs.declared.setup.failure.Wanting.{Wanting}
+use Rattle.script.specs.declared.statement.Statement.{Statement}
+use Rattle.script.specs.declared.statement.Statement.TheVariants.{Setting, Call, Range}
+use Rattle.script.specs.declared.transcript.NotUnderstood.TheVariants as why
+use Rattle.script.specs.declared.transcript.Reply.TheVariants.{Answered, SettingRefused, Permitted, RangeRefused, NotUnderstood}
+
+-- A call or a question, if there is a room for it; else what the room is wanting.
+abbrev pub in_room : Result RoomTold Wanting → Said → Said
+in_room (Ok room) s = s
+in_room (Err e) s = said.Replied (NotUnderstood (why.Wanting e))
+
+-- What a statement says, by what was told before it. A setting is answered at once.
+abbrev pub said_by : Told → Statement → Said
+said_by t (Setting x) = said.Replied (setting_reply (setting_answer t x))
+said_by t (Call c) = in_room (room_in t) (said.Call c)
+said_by t (Range q) = in_room (room_in t) (said.Range q)
+
+-- What is told behind it. A call or a question makes the room, if nothing is wanting.
+abbrev pub told_behind : Told → Statement → Told
+told_behind t (Setting x) = told_after t x
+told_behind t (Call c) = told_after_call t
+told_behind t (Range q) = told_after_call t
+
+-- What a line says, if it is not passed over.
+abbrev pub said_where : Told → Result (Option Statement) Misread → Option Said
+said_where t (Ok None) = None
+said_where t (Ok (Some x)) = Some (said_by t x)
+said_where t (Err e) = Some (said.Replied (NotUnderstood (why.Misread e)))
+
+abbrev pub said_in : Told → List ℕ → Option Said
+said_in t line = said_where t (statement_in line)
+
+-- A line that is no statement leaves what was told.
+abbrev pub told_where : Told → Result (Option Statement) Misread → Told
+told_where t (Ok None) = t
+told_where t (Ok (Some x)) = told_behind t x
+told_where t (Err e) = t
+
+abbrev pub told_behind_line : Told → List ℕ → Told
+told_behind_line t line = told_where t (statement_in line)
+
+-- A line with its number, if it is not passed over.
+abbrev pub numbered : ℕ → Option Said → List Line
+numbered n None = []
+numbered n (Some s) = record { number = n; said = s } ∷ []
+
+-- What these lines say, the first of which has this number; passed over or not, each line counts.
+abbrev pub lines_said : Told → ℕ → List (List ℕ) → List Line
+lines_said t n [] = []
+lines_said t n (l ∷ ls) = numbered n (said_in t l) ++ lines_said (told_behind_line t l) (n + 1) ls
+
+-- What is told behind them.
+abbrev pub told_behind_lines : Told → List (List ℕ) → Told
+told_behind_lines t [] = t
+told_behind_lines t (l ∷ ls) = told_behind_lines (told_behind_line t l) ls
+
+-- The room of what was told, if nothing is wanting.
+abbrev pub room_of : Result RoomTold Wanting → Option RoomTold
+room_of (Ok room) = Some room
+room_of (Err e) = None
+
+-- A line is understood if it is answered otherwise than by why it is not.
+abbrev pub is_understood : Said → Bool
+is_understood (said.Replied (NotUnderstood e)) = false
+is_understood (said.Replied (Answered a)) = true
+is_understood (said.Replied (SettingRefused e)) = true
+is_understood (said.Replied (Permitted r)) = true
+is_understood (said.Replied (RangeRefused e)) = true
+is_understood (said.Call c) = true
+is_understood (said.Range q) = true
+
+-- The lines of a script, all of them.
+abbrev pub script_lines : List ℕ → List Line
+script_lines script = lines_said nothing_told 1 (lines script)
+
+abbrev pub is_all_understood : List Line → Bool
+is_all_understood ls = list_all (λ l. is_understood l.said) ls

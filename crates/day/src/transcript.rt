@@ -1,0 +1,75 @@
+// The transcript of a script: the text of its answers.
+ghost use Rattle.std.specs.Prelude.{◌≡◌, IfOk, string_bytes};
+ghost use Rattle.day.specs.ForMember.{TextFor, TranscriptFor};
+ghost use Rattle.day.specs.Lines.{is_understood, is_all_understood, script_lines};
+
+use crate::calls::calls_in;
+use crate::lines::{Line, Said, Script};
+use crate::outcome::{Outcome, carry_out};
+use crate::{member, whole};
+use script::setup::RoomTerms;
+use script::transcript::Reply;
+use std::alloc::{AllocError, Global};
+
+// What is printed, and whether every statement of the script is understood.
+#[derive(Drop)]
+pub struct Transcript {
+    pub text: String,
+    pub understood: bool,
+}
+
+fn is_understood(line: &Line) -> bool
+    ensures { result ≡ is_understood line.now.said }
+{
+    !matches!(&line.said, Said::Replied(Reply::NotUnderstood(_)))
+}
+
+fn is_all_understood(lines: &[Line]) -> bool
+    ensures { result ≡ is_all_understood lines.now }
+{
+    lines.iter().all(is_understood)
+}
+
+// Carries out the calls of the lines, and writes what the member may see.
+fn text_for(
+    heap: Global,
+    lines: &[Line],
+    terms: RoomTerms,
+    member: u8,
+) -> Result<String, AllocError>
+    ensures { IfOk result (λ text. TextFor member terms lines.now (string_bytes text)) }
+{
+    let calls = calls_in(heap, lines, terms.number)?;
+    let Outcome { answers, closed: _ } = carry_out(heap, terms, calls)?;
+    let mut text = String::new(heap);
+    member::write_lines(&mut text, lines, &answers, member)?;
+    Ok(text)
+}
+
+// Carries out a script. The text has what the member may see, and nothing else.
+pub fn transcript_for(heap: Global, script: &str, member: u8) -> Result<Transcript, AllocError>
+    ensures text { IfOk result (λ t. TranscriptFor member script.now (string_bytes t.text)) }
+    ensures understood { IfOk result (λ t. t.understood ≡ is_all_understood (script_lines script.now)) }
+{
+    let Script { lines, room } = Script::read(heap, script)?;
+    let understood = is_all_understood(&lines);
+    let text = match room {
+        Some(terms) => text_for(heap, &lines, terms, member)?,
+        None => String::new(heap),
+    };
+    Ok(Transcript { text, understood })
+}
+
+// Carries out a script. The text has the answers to all its statements, and those to the collectings at its end.
+pub fn whole_transcript(heap: Global, script: &str) -> Result<Transcript, AllocError>
+    ensures { IfOk result (λ t. t.understood ≡ is_all_understood (script_lines script.now)) }
+{
+    let Script { lines, room } = Script::read(heap, script)?;
+    let understood = is_all_understood(&lines);
+    let mut text = String::new(heap);
+    match room {
+        Some(terms) => whole::write_day(&mut text, heap, lines, terms)?,
+        None => whole::write_lines(&mut text, lines, None)?,
+    }
+    Ok(Transcript { text, understood })
+}

@@ -1,0 +1,35 @@
+-- What statements are answered, and the text of it.
+use Rattle.std.specs.Prelude.{ℕ, List, ◌++◌, codes, Option, Some, None, Result, Ok, Err}
+use Rattle.std.specs.Fmt.{decimal}
+use Rattle.market.specs.declared.range.PermittedRange.{PermittedRange}
+use Rattle.market.specs.declared.refusal.RangeRefusal.{RangeRefusal}
+use Rattle.market.specs.Range.{range_prices}
+use Rattle.market.specs.Refusals.{range_number}
+use Rattle.script.specs.declared.setup.failure.SettingFailure.{SettingFailure}
+use Rattle.script.specs.declared.setup.failure.SettingFailure.TheVariants as failure
+use Rattle.script.specs.declared.transcript.NotUnderstood.TheVariants as why
+use Rattle.script.specs.declared.transcript.Reply.{Reply}
+use Rattle.script.specs.declared.transcript.Reply.TheVariants.{Answered, SettingRefused, Permitted, RangeRefused, NotUnderstood}
+use Rattle.script.specs.Ranges.{range_told}
+use Rattle.script.specs.SettingRefusals.{setting_refusal_number}
+use Rattle.script.specs.Texts.{answer_text, range_text}
+use Rattle.session.specs.declared.answers.Answer.TheVariants.{Accepted}
+
+-- The text of a reply. In which words a line is not understood is not said here.
+abbrev pub reply_text : Reply → Option (List ℕ)
+reply_text (Answered a) = Some (answer_text a)
+reply_text (SettingRefused e) = Some (codes "refused " ++ decimal (setting_refusal_number e))
+reply_text (Permitted r) = Some (range_text r)
+reply_text (RangeRefused e) = Some (codes "refused " ++ decimal (range_number e))
+reply_text (NotUnderstood e) = None
+
+-- A setting is accepted or refused, or comes too late to be understood.
+abbrev pub setting_reply : Result (Unit {0}) SettingFailure → Reply
+setting_reply (Ok x) = Answered Accepted
+setting_reply (Err (failure.Refused e)) = SettingRefused e
+setting_reply (Err failure.AfterFirstCall) = NotUnderstood why.AfterFirstCall
+
+-- A question is answered by a range, or refused.
+abbrev pub range_reply : Result PermittedRange RangeRefusal → Reply
+range_reply (Ok r) = Permitted (range_told (range_prices r))
+range_reply (Err e) = RangeRefused e

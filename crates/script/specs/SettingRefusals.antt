@@ -1,0 +1,11 @@
+-- The refusals of settings, by number: those of interval sources and of legs.
+use Rattle.std.specs.Prelude.{ℕ}
+use Rattle.interval.specs.Refusals.{interval_refusal_number}
+use Rattle.market.specs.Refusals.{setup_number}
+use Rattle.script.specs.declared.setup.failure.SettingRefusal.{SettingRefusal}
+use Rattle.script.specs.declared.setup.failure.SettingRefusal.TheVariants.{Interval, Legs}
+
+-- 8 a fixed interval outside 100 to 1,000 milliseconds, 9 a ratio outside 1 to 9, 10 a fifth leg.
+abbrev pub setting_refusal_number : SettingRefusal → ℕ
+setting_refusal_number (Interval e) = interval_refusal_number e
+setting_refusal_number (Legs e) = setup_number e

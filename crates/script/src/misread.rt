@@ -1,0 +1,95 @@
+// Why a line is not understood. Only what was expected is told, and never what the line says.
+use std::fmt;
+
+// What a line is to have at a place.
+#[derive(Clone, Copy, PartialEq, Eq, Debug)]
+pub enum Expected {
+    Statement,
+    RoomNumber,
+    Side,
+    Ratio,
+    Ranking,
+    Interval,
+    Milliseconds,
+    Seed,
+    Time,
+    Half,
+    Leg,
+    Bid,
+    Offer,
+    BookBid,
+    BookOffer,
+    Member,
+    OwnNumber,
+    Kind,
+    Class,
+    Size,
+    At,
+    Limit,
+    Guarantee,
+    Price,
+    Auction,
+    Rows,
+}
+
+// What is wrong with a line, at the first place from the left where something is.
+#[derive(Clone, Copy, PartialEq, Eq, Debug)]
+pub enum Misread {
+    // The line ends where more is expected.
+    Missing(Expected),
+    // Another word stands there.
+    Unknown(Expected),
+    // A minus stands before a number that may have none.
+    Negative(Expected),
+    // The statement is whole, and words follow.
+    Surplus,
+}
+
+impl fmt::Display for Expected {
+    fn fmt<W: fmt::Write>(&self, f: &mut fmt::Formatter<W>) -> fmt::Result {
+        f.write_str(match self {
+            Expected::Statement => {
+                "room, leg, ranking, interval, tick, open, respond, change, withdraw, halt, resume, clock, look, collect or range"
+            }
+            Expected::RoomNumber => "the room's number",
+            Expected::Side => "buy or sell",
+            Expected::Ratio => "a ratio",
+            Expected::Ranking => "arrival or size",
+            Expected::Interval => "fixed or drawn",
+            Expected::Milliseconds => "milliseconds",
+            Expected::Seed => "a seed",
+            Expected::Time => "a time",
+            Expected::Half => "leg or book",
+            Expected::Leg => "a leg's number",
+            Expected::Bid => "a bid",
+            Expected::Offer => "an offer",
+            Expected::BookBid => "a bid or none",
+            Expected::BookOffer => "an offer or none",
+            Expected::Member => "a member's number",
+            Expected::OwnNumber => "an own number",
+            Expected::Kind => "sealed or plain",
+            Expected::Class => "customer or other",
+            Expected::Size => "a size",
+            Expected::At => "@",
+            Expected::Limit => "a limit",
+            Expected::Guarantee => "stop or match",
+            Expected::Price => "a price",
+            Expected::Auction => "an auction's number",
+            Expected::Rows => "a number of rows",
+        })
+    }
+}
+
+impl fmt::Display for Misread {
+    fn fmt<W: fmt::Write>(&self, f: &mut fmt::Formatter<W>) -> fmt::Result {
+        match self {
+            Misread::Missing(what) => write!(f, "the line ends where {what} is expected"),
+            Misread::Unknown(what) => write!(
+                f,
+                "{what} is expected, and something else stands there"
+            ),
+            Misread::Negative(what) => write!(f, "{what} is expected, with no minus"),
+            Misread::Surplus => write!(f, "the statement is whole, and words follow"),
+        }
+    }
+}

@@ -1,0 +1,104 @@
+// The parts of statements: numbers, prices, and words that are one of a few.
+ghost use Rattle.std.specs.Prelude.{◌≡◌, ◌≤◌, IfOk};
+ghost use Rattle.script.specs.Readers.{read_as, with_rest, a_word, number_told, number_up_to, a_number, optional_number, a_price, one_of};
+ghost use Rattle.script.specs.Parts.{at_named, book_price_named};
+ghost use Rattle.script.specs.declared.misread.Expected.TheVariants as expected;
+
+use super::named::Named;
+use crate::misread::{Expected, Misread};
+use crate::number::{number_in, price_in};
+use crate::words::Words;
+
+// A price of the book, which may be none.
+fn book_price_named(word: &str) -> Option<Option<i64>>
+    ensures { result ≡ book_price_named word.now }
+{
+    match word {
+        "none" => Some(None),
+        price => price_in(price).map(Some),
+    }
+}
+
+// A number with no minus. One above the most is taken as the most.
+fn number_told(word: &str, most: u64, what: Expected) -> Result<u64, Misread>
+    ensures value { result ≡ number_told most what word.now }
+    ensures bound { IfOk result (λ n. n ≤ most) }
+{
+    if word.starts_with('-') {
+        return Err(Misread::Negative(what));
+    }
+    number_in(word.as_bytes(), most).ok_or(Misread::Unknown(what))
+}
+
+impl<'a> Words<'a> {
+    // The next word, which is to be there.
+    fn word(&mut self, what: Expected) -> Result<&'a str, Misread>
+        ensures { read_as (λ w. w.now) result self.new ≡ a_word what self.old }
+    {
+        self.next().ok_or(Misread::Missing(what))
+    }
+
+    fn number_up_to(&mut self, most: u64, what: Expected) -> Result<u64, Misread>
+        ensures value { with_rest result self.new ≡ number_up_to most what self.old }
+        ensures bound { IfOk result (λ n. n ≤ most) }
+    {
+        number_told(self.word(what)?, most, what)
+    }
+
+    pub(crate) fn u64(&mut self, what: Expected) -> Result<u64, Misread>
+        ensures { with_rest result self.new ≡ a_number 64 what self.old }
+    {
+        self.number_up_to(u64::MAX, what)
+    }
+
+    pub(crate) fn u32(&mut self, what: Expected) -> Result<u32, Misread>
+        ensures { with_rest result self.new ≡ a_number 32 what self.old }
+    {
+        Ok(self.number_up_to(u64::from(u32::MAX), what)? as u32)
+    }
+
+    pub(crate) fn u8(&mut self, what: Expected) -> Result<u8, Misread>
+        ensures { with_rest result self.new ≡ a_number 8 what self.old }
+    {
+        Ok(self.number_up_to(u64::from(u8::MAX), what)? as u8)
+    }
+
+    // A number, or what is taken in its place where no word is left.
+    pub(crate) fn optional_u64(&mut self, what: Expected, otherwise: u64) -> Result<u64, Misread>
+        ensures { with_rest result self.new ≡ optional_number 64 what otherwise self.old }
+    {
+        match self.next() {
+            None => Ok(otherwise),
+            Some(word) => number_told(word, u64::MAX, what),
+        }
+    }
+
+    // One of a few words, by what it stands for.
+    pub(crate) fn one_of<T: Named>(&mut self, what: Expected) -> Result<T, Misread>
+        ensures { with_rest result self.new ≡ one_of T.stands_for what self.old }
+    {
+        T::named(self.word(what)?).ok_or(Misread::Unknown(what))
+    }
+
+    pub(crate) fn price(&mut self, what: Expected) -> Result<i64, Misread>
+        ensures { with_rest result self.new ≡ a_price what self.old }
+    {
+        price_in(self.word(what)?).ok_or(Misread::Unknown(what))
+    }
+
+    pub(crate) fn book_price(&mut self, what: Expected) -> Result<Option<i64>, Misread>
+        ensures { with_rest result self.new ≡ one_of book_price_named what self.old }
+    {
+        book_price_named(self.word(what)?).ok_or(Misread::Unknown(what))
+    }
+
+    // The sign between a size and a price.
+    pub(crate) fn at(&mut self) -> Result<(), Misread>
+        ensures { with_rest result self.new ≡ one_of at_named expected.At self.old }
+    {
+        match self.word(Expected::At)? {
+            "@" => Ok(()),
+            _ => Err(Misread::Unknown(Expected::At)),
+        }
+    }
+}

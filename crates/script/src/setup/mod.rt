@@ -1,0 +1,89 @@
+// Setting up: what a script tells before its first call, and the room that is made of it then.
+ghost use Rattle.std.specs.Prelude.{◌≡◌};
+ghost use Rattle.room.specs.Refusals.{seen_as};
+ghost use Rattle.script.specs.Setups.{told_of, nothing_told, room_told, setting_answer, told_after, room_in, told_after_call};
+
+pub mod failure;
+mod legs;
+
+use crate::chosen::{ChosenInterval, ChosenRanking};
+use crate::statement::Setting;
+use failure::{SettingFailure, Wanting};
+use legs::LegsSoFar;
+use market::legs::Legs;
+
+// What was told so far, and whether the room is made of it.
+#[derive(Clone, Copy)]
+pub struct Setup {
+    number: Option<u32>,
+    legs: LegsSoFar,
+    ranking: Option<ChosenRanking>,
+    interval: Option<ChosenInterval>,
+    made: bool,
+}
+
+// What a room is made of.
+#[derive(Clone, Copy)]
+pub struct RoomTerms {
+    pub number: u32,
+    pub legs: Legs,
+    pub ranking: ChosenRanking,
+    pub source: ChosenInterval,
+}
+
+impl Setup {
+    // Nothing is told yet.
+    pub fn new() -> Setup
+        ensures { told_of result ≡ nothing_told }
+    {
+        Setup {
+            number: None,
+            legs: LegsSoFar::Nothing,
+            ranking: None,
+            interval: None,
+            made: false,
+        }
+    }
+
+    // Takes a setting. A refused one, and one that comes when the room is made, leaves what was told.
+    pub fn set(&mut self, setting: Setting) -> Result<(), SettingFailure>
+        ensures answer { result ≡ setting_answer (told_of self.old) setting }
+        ensures after { told_of self.new ≡ told_after (told_of self.old) setting }
+    {
+        if self.made {
+            return Err(SettingFailure::AfterFirstCall);
+        }
+        match setting {
+            Setting::Room { number } => self.number = Some(number),
+            Setting::Leg(leg) => self.legs = self.legs.with(leg)?,
+            Setting::Ranking(ranking) => self.ranking = Some(ranking),
+            Setting::Interval(terms) => self.interval = Some(ChosenInterval::new(terms)?),
+        }
+        Ok(())
+    }
+
+    fn terms(&self) -> Result<RoomTerms, Wanting>
+        ensures { seen_as result room_told ≡ room_in (told_of self.now) }
+    {
+        let number = self.number.ok_or(Wanting::Number)?;
+        let legs = self.legs.strategy().ok_or(Wanting::Legs)?;
+        let ranking = self.ranking.ok_or(Wanting::Ranking)?;
+        let source = self.interval.ok_or(Wanting::Interval)?;
+        Ok(RoomTerms {
+            number,
+            legs,
+            ranking,
+            source,
+        })
+    }
+
+    // What the room is made of, for a call on it or a question to its market: at the first, the room is made.
+    pub fn room(&mut self) -> Result<RoomTerms, Wanting>
+        ensures answer { seen_as result room_told ≡ room_in (told_of self.old) }
+        ensures after { told_of self.new ≡ told_after_call (told_of self.old) }
+    {
+        let terms = self.terms()?;
+        self.made = true;
+        Ok(terms)
+    }
+}

@@ -1,0 +1,219 @@
+// Writing statements: each as the line that says it.
+ghost use Rattle.std.specs.Prelude.{◌≡◌, Some, Ok};
+ghost use Rattle.script.specs.declared.statement.Statement.{Statement};
+ghost use Rattle.script.specs.Grammar.{statement_in};
+ghost use Rattle.script.specs.Held.{Held};
+ghost use Rattle.script.specs.Writing.{spaced, ranking_name, guarantee_name, book_price_word, interval_words, setting_words, tick_words, opening_words, response_words, call_words, statement_text};
+
+use crate::chosen::ChosenRanking;
+use crate::statement::{CallStatement, IntervalTerms, RangeQuestion, Setting, Statement};
+use crate::transcript::rows::KindText;
+use allocation::order::GuaranteeKind;
+use market::better_of::Half;
+use market::cube::CubeTick;
+use room::requests::{ChangeRequest, OpeningRequest, ResponseRequest, WithdrawRequest};
+use std::fmt;
+
+impl fmt::Display for ChosenRanking {
+    ghost output = { λ x. Some (ranking_name x) };
+
+    fn fmt<W: fmt::Write>(&self, f: &mut fmt::Formatter<W>) -> fmt::Result {
+        f.write_str(match self {
+            ChosenRanking::Arrival => "arrival",
+            ChosenRanking::Size => "size",
+        })
+    }
+}
+
+// A guarantee, by its word.
+#[derive(Clone, Copy)]
+struct GuaranteeWord(GuaranteeKind);
+
+impl fmt::Display for GuaranteeWord {
+    ghost output = { λ x. Some (guarantee_name x.0) };
+
+    fn fmt<W: fmt::Write>(&self, f: &mut fmt::Formatter<W>) -> fmt::Result {
+        f.write_str(match self.0 {
+            GuaranteeKind::SingleStop => "stop",
+            GuaranteeKind::AutoMatchLimit => "match",
+        })
+    }
+}
+
+// A price of the book, which may be none.
+#[derive(Clone, Copy)]
+struct BookPrice(Option<i64>);
+
+impl fmt::Display for BookPrice {
+    ghost output = { λ x. Some (book_price_word x.0) };
+
+    fn fmt<W: fmt::Write>(&self, f: &mut fmt::Formatter<W>) -> fmt::Result {
+        match self.0 {
+            None => f.write_str("none"),
+            Some(price) => write!(f, "{price}"),
+        }
+    }
+}
+
+impl fmt::Display for IntervalTerms {
+    ghost output = { λ x. Some (spaced (interval_words x)) };
+
+    fn fmt<W: fmt::Write>(&self, f: &mut fmt::Formatter<W>) -> fmt::Result {
+        match *self {
+            IntervalTerms::Fixed { milliseconds } => write!(f, "fixed {milliseconds}"),
+            IntervalTerms::Drawn { seed } => write!(f, "drawn {seed}"),
+        }
+    }
+}
+
+impl fmt::Display for Setting {
+    ghost output = { λ x. Some (spaced (setting_words x)) };
+
+    fn fmt<W: fmt::Write>(&self, f: &mut fmt::Formatter<W>) -> fmt::Result {
+        match *self {
+            Setting::Room { number } => write!(f, "room {number}"),
+            Setting::Leg(leg) => {
+                let side = leg.side;
+                let ratio = leg.ratio;
+                write!(f, "leg {side} {ratio}")
+            }
+            Setting::Ranking(ranking) => write!(f, "ranking {ranking}"),
+            Setting::Interval(terms) => write!(f, "interval {terms}"),
+        }
+    }
+}
+
+// A tick of the market, from the half that it is for on.
+#[derive(Clone, Copy)]
+struct TickText<'a>(&'a CubeTick);
+
+impl fmt::Display for TickText<'_> {
+    ghost output = { λ x. Some (spaced (tick_words x.0.now)) };
+
+    fn fmt<W: fmt::Write>(&self, f: &mut fmt::Formatter<W>) -> fmt::Result {
+        match self.0 {
+            Half::Left(quote) => {
+                let bid = BookPrice(quote.bid);
+                let offer = BookPrice(quote.offer);
+                write!(f, "book {bid} {offer}")
+            }
+            Half::Right(tick) => {
+                let leg = tick.leg;
+                let bid = tick.quote.bid;
+                let offer = tick.quote.offer;
+                write!(f, "leg {leg} {bid} {offer}")
+            }
+        }
+    }
+}
+
+// An opening, behind its first word.
+#[derive(Clone, Copy)]
+struct OpeningText(OpeningRequest);
+
+impl fmt::Display for OpeningText {
+    ghost output = { λ x. Some (spaced (opening_words x.0)) };
+
+    fn fmt<W: fmt::Write>(&self, f: &mut fmt::Formatter<W>) -> fmt::Result {
+        let OpeningRequest {
+            time,
+            member,
+            order,
+        } = self.0;
+        let side = order.side;
+        let size = order.size;
+        let limit = order.limit;
+        let guarantee = GuaranteeWord(order.guarantee.kind);
+        let price = order.guarantee.price;
+        write!(
+            f,
+            "{time} {member} {side} {size} @ {limit} {guarantee} {price}"
+        )
+    }
+}
+
+// A response, behind its first word.
+#[derive(Clone, Copy)]
+struct ResponseText(ResponseRequest);
+
+impl fmt::Display for ResponseText {
+    ghost output = { λ x. Some (spaced (response_words x.0)) };
+
+    fn fmt<W: fmt::Write>(&self, f: &mut fmt::Formatter<W>) -> fmt::Result {
+        let ResponseRequest {
+            time,
+            member,
+            own,
+            side,
+            kind,
+            class,
+            size,
+            price,
+        } = self.0;
+        let kind = KindText(kind);
+        write!(
+            f,
+            "{time} {member} {own} {side} {kind} {class} {size} @ {price}"
+        )
+    }
+}
+
+impl fmt::Display for CallStatement {
+    ghost output = { λ x. Some (spaced (call_words x)) };
+
+    fn fmt<W: fmt::Write>(&self, f: &mut fmt::Formatter<W>) -> fmt::Result {
+        match self {
+            CallStatement::Open(request) => {
+                let opening = OpeningText(*request);
+                write!(f, "open {opening}")
+            }
+            CallStatement::Respond(request) => {
+                let response = ResponseText(*request);
+                write!(f, "respond {response}")
+            }
+            CallStatement::Change(request) => {
+                let ChangeRequest {
+                    time,
+                    member,
+                    own,
+                    size,
+                    price,
+                } = *request;
+                write!(f, "change {time} {member} {own} {size} @ {price}")
+            }
+            CallStatement::Withdraw(request) => {
+                let WithdrawRequest { time, member, own } = *request;
+                write!(f, "withdraw {time} {member} {own}")
+            }
+            CallStatement::Tick { time, tick } => {
+                let tick = TickText(tick);
+                write!(f, "tick {time} {tick}")
+            }
+            CallStatement::Halt { time } => write!(f, "halt {time}"),
+            CallStatement::Resume { time } => write!(f, "resume {time}"),
+            CallStatement::Clock { time } => write!(f, "clock {time}"),
+            CallStatement::Look => f.write_str("look"),
+            CallStatement::Collect { auction, rows } => write!(f, "collect {auction} {rows}"),
+        }
+    }
+}
+
+impl fmt::Display for Statement {
+    ghost output = { λ x. Some (statement_text x) };
+
+    fn fmt<W: fmt::Write>(&self, f: &mut fmt::Formatter<W>) -> fmt::Result {
+        match self {
+            Statement::Setting(setting) => write!(f, "{setting}"),
+            Statement::Call(call) => write!(f, "{call}"),
+            Statement::Range(question) => {
+                let RangeQuestion { side, limit } = *question;
+                write!(f, "range {side} {limit}")
+            }
+        }
+    }
+}
+
+// Each statement, written and read, is the statement again. It computes nothing.
+pub fn statements_read_again()
+    ensures { (s : Statement) → Held s → statement_in (statement_text s) ≡ Ok (Some s) }
+{}
