@@ -1,3 +1,5 @@
+-- How an auction's contracts are shared: the code writes the fill list, which keeps its laws (FillProved), and only its shares
+-- keep them (LawsDecide); and an auction stays one as responses come, change and go (AuctionKept, OwnsKept).
 mod LevelShape
 mod LevelFacts
 mod ShareFacts

@@ -1,3 +1,5 @@
+-- The rules of sharing out an auction's contracts, and the values of an auction, a file a topic. LevelSteps, Plans and Walk are
+-- words for the code's inner steps.
 pub mod Causes
 pub mod Classes
 pub mod Guarantees

@@ -3,7 +3,7 @@ ghost use Rattle.std.specs.Prelude.{◌≡◌, ◌≤◌, length};
 
 use crate::response::Response;
 
-// The rule of the project is fixed memory: 64 rows and how many of them stand, and no heap.
+// Fixed memory, and no heap: 64 rows, and how many of them stand.
 #[derive(Clone, Copy)]
 pub struct ResponseTable {
     pub(crate) rows: [Response; 64],

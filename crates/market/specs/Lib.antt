@@ -1,3 +1,5 @@
+-- The rules of markets and of the range that they permit an order, a file a topic. LegSteps are words for the code's inner
+-- steps; LegsBounded and BetterOfMarketLemmas have lemmas.
 pub mod Prices
 pub mod Turned
 pub mod OneToNine

@@ -165,6 +165,38 @@ OpeningRefusedForWantOfAPrice =
     ∷ looks ⇒ one_open 80 0 (viewed 1 Buy 100 304)
     ∷ [])
 
+-- Of several the first is told: 12 before 14, and 14 before 16. The stop of 311 is above the limit, and so above whatever
+-- initiating price the order comes to have: 310, once a book of 290 and 320 shows 291 and 319.
+abbrev pub OpeningChecksInTheirOrder : Type 0
+OpeningChecksInTheirOrder =
+    Goes by_arrival unquoted_market hundred
+    (halts 10 ⇒ accepted
+    ∷ buys 20 100 310 (stop 311) ⇒ refused 12
+    ∷ resumes 30 ⇒ accepted
+    ∷ buys 40 100 310 (stop 311) ⇒ refused 14
+    ∷ book_tick 50 290 320 ⇒ accepted
+    ∷ buys 60 100 310 (stop 311) ⇒ refused 16
+    ∷ looks ⇒ none_open 60 0
+    ∷ [])
+
+-- 13 before 14. No leg is quoted, so a book of 290 and 320 shows by itself, 291 and 319, until it offers no more: then an
+-- opening is 13 while the halted auction waits, and 14 once that is collected.
+abbrev pub WaitingBeforeWantOfAPrice : Type 0
+WaitingBeforeWantOfAPrice =
+    Goes by_arrival unquoted_market hundred
+    (book_tick 10 290 320 ⇒ accepted
+    ∷ buys 20 100 310 (stop 300) ⇒ claim 1
+    ∷ looks ⇒ one_open 20 0 (viewed 1 Buy 100 310)
+    ∷ halts 30 ⇒ accepted
+    ∷ resumes 40 ⇒ accepted
+    ∷ book_bids 50 290 ⇒ accepted
+    ∷ buys 60 100 310 (stop 300) ⇒ refused 13
+    ∷ looks ⇒ none_open 60 1
+    ∷ collects 1 ⇒ collected 1 Halt (contra_row 300 100 ∷ [])
+    ∷ buys 70 100 310 (stop 300) ⇒ refused 14
+    ∷ looks ⇒ none_open 70 0
+    ∷ [])
+
 -- A book of 303 and 304 crosses once it is improved, 304 and 303: no order has a range, and an opening is refusal 15.
 abbrev pub OpeningRefusedInACrossedMarket : Type 0
 OpeningRefusedInACrossedMarket =
@@ -344,6 +376,8 @@ abbrev pub OpeningRefusals : Type 0
 OpeningRefusals =
     OpeningRefusedByTheRoom
     × OpeningRefusedForWantOfAPrice
+    × OpeningChecksInTheirOrder
+    × WaitingBeforeWantOfAPrice
     × OpeningRefusedInACrossedMarket
     × RefusedOpeningMovesOnlyTheClock
     × RefusedOpeningDrawsNothing

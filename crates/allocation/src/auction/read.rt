@@ -40,7 +40,7 @@ impl Auction {
     pub fn is_any_below(&self, price: i64) -> bool
         ensures { result ≡ any_below price (auction_values self.now).stood }
     {
-        // The rule of the project: the response below the floor is found by a `for` over the rows that stand.
+        // A `for` over the rows that stand, looking for one below the floor.
         for response in self.table.standing() {
             if response.price < price {
                 return true;

@@ -13,7 +13,7 @@ mod store;
 mod ticks;
 
 // The open auction. Arrival numbers count up over all members; `used` has a place for each of the 16 members, in fixed memory,
-// since a room takes no heap (a rule of the project).
+// since a room takes no heap.
 #[derive(Clone, Copy)]
 pub(crate) struct CurrentAuction {
     pub(crate) number: u32,

@@ -61,7 +61,7 @@ fn stored(order: &CheckedOrder, range: &PermittedRange) -> PairedOrder
             price: order.guarantee.price.turned(order.side),
         },
     };
-    // The project asks here for one changed field of nested plain records.
+    // One changed field of nested plain records.
     stored.guarantee.price = stored.guarantee.price.max(range.floor);
     stored
 }

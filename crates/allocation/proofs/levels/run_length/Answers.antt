@@ -1,3 +1,4 @@
+-- The count of the front that stands at the place is the length of the run that the definitions name.
 use Rattle.std.proofs.Common.{◌≡◌, cond, List, [], ◌∷◌, ℤ, sym, refl, ap, ◌∙◌, arith, rules}
 use Rattle.std.specs.List.{prefix_len}
 use Rattle.allocation.specs.declared.response.Class.{Class}

@@ -1,3 +1,4 @@
+-- After the halt the one claim collects, and the room has kept its number.
 use Rattle.std.proofs.Common.{◌≡◌, ◌∷◌, [], Bool, true, false, cond, max, IsOk, sym, refl, ap, ◌∙◌, subst}
 use Rattle.allocation.specs.declared.cause.EndCause.TheVariants.{Deadline}
 use Rattle.room.specs.Rooms.{claim_numbers, collected_answer, state_of, world_of}

@@ -1,3 +1,4 @@
+-- With the new terms the auction is still one: the response may stand so, its arrival number is free, and own numbers stay.
 use Rattle.std.proofs.Common.{sym, ap, ◌∙◌}
 use Rattle.std.proofs.lemmas.Bool.{and_parts}
 use Rattle.allocation.specs.AuctionInvariant.{stored_ok, response_ok, each, arrivals_apart, owns_apart}

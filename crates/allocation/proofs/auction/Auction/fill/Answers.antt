@@ -1,3 +1,5 @@
+-- The rows written keep the laws of a fill list and of what the contra may take, as no other shares do, and places past them
+-- stay. Refused or not, each class of each level is in ranking order.
 use Rattle.std.proofs.Common.{◌≡◌, Bool, true, not, List, take, sym, subst, arith}
 use Rattle.std.specs.Prelude.{◌≢◌}
 use Rattle.allocation.specs.declared.auction.Auction.{Auction}

@@ -1,3 +1,4 @@
+-- The number is free exactly if each response that stands has another.
 use Rattle.std.proofs.Common.{not, eqb, ◌∙◌, rules, tests}
 use Rattle.std.proofs.lemmas.Iterator.{YieldsList-from_slice}
 use Rattle.std.proofs.lemmas.Iterator.Search.{all_from_yields_List}

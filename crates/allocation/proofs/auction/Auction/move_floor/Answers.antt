@@ -1,3 +1,4 @@
+-- With the other floor the auction is still one: it may have these terms, and no response stands below the floor.
 use Rattle.std.proofs.Common.{sym, ◌∙◌, w64, to_z, of_z}
 use Rattle.std.proofs.lemmas.Bool.{and_parts, not-true}
 use Rattle.allocation.specs.AuctionInvariant.{terms_ok}

@@ -1,3 +1,4 @@
+-- With one response more the auction is still one: it may stand, its arrival number is free, and so is its own number.
 use Rattle.std.proofs.Common.{sym, ap, ◌∙◌}
 use Rattle.allocation.specs.Auction.{auction_values}
 use Rattle.allocation.specs.AuctionInvariant.{response_ok, each, arrivals_apart, owns_apart}

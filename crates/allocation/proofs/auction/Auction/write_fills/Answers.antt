@@ -1,3 +1,5 @@
+-- The arranged responses are at most 64, each sized, so they can be shared out; the rows and their count are those of the
+-- auction's fill list.
 use Rattle.std.proofs.Common.{◌≡◌, ◌+◌, ◌≤◌, ◌++◌, Bool, List, Some, length, take, drop, sym, ap, ◌∙◌, subst, arith}
 use Rattle.std.proofs.lemmas.List.{length-take}
 use Rattle.allocation.specs.declared.auction.Auction.{Auction}

@@ -1,3 +1,4 @@
+-- At most 6,400,000 contracts times a size stays inside 64 bits.
 use Rattle.std.proofs.Common.{arith}
 use Rattle.std.proofs.lemmas.Nat.{mul-le}
 use Rattle.allocation.proofs.ShareFacts.{total_most}

@@ -1,3 +1,4 @@
+-- Each size has a whole part, being at least 1 and no more than is asked for in all; added up, the parts are the model's total.
 use Rattle.std.proofs.Common.{◌*◌, ◌/◌, ◌≤◌, ap, sym, ◌∙◌, arith, rules}
 use Rattle.std.proofs.ByRecursion.{All-get_or}
 use Rattle.std.proofs.lemmas.Iterator.{YieldsList-from_slice, YieldsList-from_map}

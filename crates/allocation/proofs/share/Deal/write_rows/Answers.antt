@@ -1,3 +1,5 @@
+-- The whole parts take no more than the contracts, so what is odd can be counted; dealing from the first response on is the
+-- sharing; and no size is above all that is asked for.
 use Rattle.std.proofs.Common.{◌≤◌, ◌-◌, ap, ◌∙◌, arith}
 use Rattle.allocation.specs.FillList.{class_rows}
 use Rattle.allocation.specs.Shares.{sizes, total, parts_total, dealt}

@@ -1,3 +1,5 @@
+-- The rows so far, and then those of the responses left, dealt with the odd contracts that are left, are all the rows of the
+-- sharing. Where all that is asked for is had, none is odd.
 use Rattle.std.proofs.Common.{◌≡◌, ◌++◌, take, drop}
 use Rattle.allocation.specs.FillList.{class_rows, shared_rows}
 use Rattle.allocation.specs.Shares.{sizes, dealt}

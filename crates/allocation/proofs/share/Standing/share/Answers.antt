@@ -1,3 +1,4 @@
+-- To deal the lesser of k and all that is asked for is to share k.
 use Rattle.std.proofs.Common.{min, ap, ◌∙◌}
 use Rattle.allocation.specs.FillList.{class_rows, shared_rows}
 use Rattle.allocation.proofs.ShareFacts.{shared_min}

@@ -1,3 +1,4 @@
+-- The plan at the front is the walk's level with its split, and its rows are written behind those so far; those past them stay.
 use Rattle.std.proofs.Common.{◌≡◌, ◌+◌, ◌++◌, take, drop, ap, ◌∙◌, w64, to_z, of_z}
 use Rattle.std.proofs.lemmas.Int.{to_z-of_z}
 use Rattle.allocation.specs.FillList.{level_rows, split_at}

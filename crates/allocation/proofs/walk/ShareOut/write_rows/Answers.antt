@@ -1,3 +1,4 @@
+-- A level further on the walk is still underway; with no price to come, all rows are written, and as many as are answered.
 use Rattle.std.proofs.Common.{Some, sym, ap, ◌∙◌, arith, w64, SFits, rules}
 use Rattle.std.proofs.lemmas.Int.{to_z-of_z}
 use Rattle.allocation.proofs.WalkSteps.{steps_on, all_written}

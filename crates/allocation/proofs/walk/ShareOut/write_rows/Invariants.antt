@@ -1,3 +1,5 @@
+-- The walk is underway: the rows so far and those to come are all that is to be written, and there is room for them. Each level
+-- leaves less to go, which is counted in responses and the contra's own price.
 use Rattle.std.proofs.Common.{◌+◌, length, Some}
 use Rattle.allocation.specs.Levels.{contra_level}
 use Rattle.allocation.specs.Walk.{walked}

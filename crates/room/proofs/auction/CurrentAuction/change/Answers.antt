@@ -1,3 +1,4 @@
+-- The response with its new terms, and its count, is the model's, and no arrival number is above the last one given.
 use Rattle.std.proofs.Common.{ap, ◌∙◌}
 use Rattle.allocation.specs.declared.response.ResponseId.{ResponseId}
 use Rattle.allocation.specs.Auction.{auction_values, changed}

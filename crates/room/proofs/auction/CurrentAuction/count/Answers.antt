@@ -1,3 +1,5 @@
+-- With one more counted no member is past its 10,000, the members' counts add up to the arrivals, and every response that
+-- stands arrived before.
 use Rattle.std.proofs.Common.{◌≡◌, ◌+◌, ◌<◌, true, leb, length, get_or, ap, ◌∙◌, arith}
 use Rattle.std.proofs.lemmas.Bool.Decides.{nat_tests}
 use Rattle.allocation.specs.Auction.{auction_values}

@@ -1,3 +1,4 @@
+-- The response that is stored, with its count, is the model's, and no arrival number is above the last one given.
 use Rattle.std.proofs.Common.{ap, ◌∙◌, w64, SFits, rules}
 use Rattle.std.proofs.lemmas.Int.{to_z-of_z}
 use Rattle.allocation.specs.Auction.{auction_values}

@@ -1,3 +1,4 @@
+-- A floor that brings no end can be had, so the auction gets it, as in the model, and no arrival number changes.
 use Rattle.std.proofs.Common.{◌≡◌, Bool, true, cond, ℤ, Some, None, Option, sym, ap, ◌∙◌, w64, SFits, to_z, of_z, rules}
 use Rattle.std.proofs.lemmas.Int.{to_z-of_z}
 use Rattle.market.specs.Prices.{showable}

@@ -1,3 +1,5 @@
+-- The stored price can be turned back for the answer; those that are left are the model's, with the arrival numbers that they
+-- had.
 use Rattle.std.proofs.Common.{ℤ, Some, leb, ap, ◌∙◌, w64, SFits, rules}
 use Rattle.std.proofs.lemmas.Int.{to_z-of_z}
 use Rattle.market.specs.Prices.{showable}

@@ -1,3 +1,4 @@
+-- None waits before the opening, so only the auction that it ends can wait afterwards, and the second place stays free.
 use Rattle.std.proofs.Common.{is_some, ap}
 use Rattle.std.specs.Option.{option_map}
 use Rattle.allocation.specs.declared.cause.EndCause.TheVariants.{NextAuction}

@@ -1,3 +1,4 @@
+-- An auction is made, since the order as it is stored has, in its range, the terms of one; its values are the model's.
 use Rattle.std.proofs.Common.{◌≡◌, Bool, cond, Some, None, sym, ap, ◌∙◌, w64, SFits, to_z, of_z, rules}
 use Rattle.std.specs.Option.{option_map}
 use Rattle.std.proofs.lemmas.Int.{to_z-of_z}

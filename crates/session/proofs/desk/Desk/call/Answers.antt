@@ -1,3 +1,4 @@
+-- After the call, too, the desk holds the claims to the auctions of its room, and no others.
 use Rattle.std.proofs.Common.{sym, ap, ◌∙◌}
 use Rattle.session.specs.Claims.{claims_of_room, claims_to}
 use Rattle.session.specs.Made.{session_now, session_world}

@@ -1,3 +1,5 @@
+-- After the halt none is open; each auction that waits is told, the oldest first, the room then holds none, and no claim is
+-- left.
 use Rattle.std.proofs.Common.{[], refl, ap, ◌∙◌}
 use Rattle.room.specs.Rooms.{claim_numbers, state_of, world_of}
 use Rattle.room.specs.State.{RoomState, with_waiting}

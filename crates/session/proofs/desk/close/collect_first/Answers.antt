@@ -1,3 +1,4 @@
+-- The first claim collects the auction that has waited longest, and the claims left are those to the auctions left.
 use Rattle.std.proofs.Common.{map, IsOk, sym, refl, ap, ◌∙◌, subst, vec_items}
 use Rattle.std.specs.List.{remove}
 use Rattle.room.specs.Rooms.{claim_numbers, collected_answer, state_of, world_of}

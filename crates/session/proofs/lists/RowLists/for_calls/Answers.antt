@@ -1,3 +1,4 @@
+-- One call more keeps a list for each collecting: a collecting wants one, which is added, and any other call wants none.
 use Rattle.std.proofs.Common.{◌≡◌, Bool, cond, sym, ap, ◌∙◌, arith}
 use Rattle.session.specs.Memory.{lists_for}
 use Rattle.session.proofs.MemoryTaken.{collectings_more}

@@ -1,3 +1,4 @@
+-- There is a list for each collecting among the calls so far.
 use Rattle.std.proofs.Common.{◌≤◌, take}
 use Rattle.session.specs.Memory.{collectings_in}
 use Rattle.session.proofs.lists.RowLists.for_calls.Given as goal

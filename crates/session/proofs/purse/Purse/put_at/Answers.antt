@@ -1,3 +1,4 @@
+-- The numbers of the claims are those before, with the new claim's at the place.
 use Rattle.std.proofs.Common.{if◌then◌else◌, is_ok, map, ap, ◌∙◌, vec_items}
 use Rattle.std.specs.List.{insert}
 use Rattle.room.specs.Rooms.{claim_numbers}

@@ -1,3 +1,5 @@
+-- What is taken is the first claim of these numbers; the others stay, and with it back at its place the purse is as it was.
+-- Where none is found the purse holds none of these numbers.
 use Rattle.std.proofs.Common.{◌≤◌, length, map, ap, ◌∙◌, sym, subst, vec_items}
 use Rattle.std.specs.List.{insert}
 use Rattle.std.specs.Option.{option_map}

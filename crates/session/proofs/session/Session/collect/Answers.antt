@@ -1,3 +1,5 @@
+-- With no claim of these numbers, accepted, and refused: the session afterwards and the answer are the model's, and memory
+-- stays for the calls to come. The rows that are told are at most 129 of those written.
 use Rattle.std.proofs.Common.{None, List, sym, refl, ap, ◌∙◌, arith, length-take}
 use Rattle.std.specs.List.{insert}
 use Rattle.std.proofs.lemmas.Option.{cond_some}

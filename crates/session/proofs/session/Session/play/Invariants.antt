@@ -1,3 +1,5 @@
+-- With the calls that are left the session now comes to the same end, and to the same answers behind those so far, as the first
+-- one did with all; its ranking is the first one's, and each call left has its memory and a place for its answer.
 use Rattle.std.proofs.Common.{◌≡◌, ◌+◌, ◌≤◌, ◌++◌, map, length, vec_items, vec_len, vec_capacity}
 use Rattle.std.specs.Vec.Iter.{into_iter_items}
 use Rattle.session.specs.Made.{HasMemoryFor, session_now, session_world}
