@@ -40,10 +40,10 @@ pub fn carry_out(
         calls,
     };
     match run_day(heap, day) {
-        Ok(DayDone { answers, desk }) => Ok(Outcome {
-            answers,
-            closed: desk.close(),
-        }),
+        Ok(DayDone { answers, desk }) => {
+            let closed = desk.close();
+            Ok(Outcome { answers, closed })
+        }
         Err(
             Day {
                 number: _,

@@ -25,7 +25,7 @@ returns-in-Ok c =
     record {
       answers = did.answers ∙ ap (λ p. session_answers w (at p) calls) made;
       at_end =
-          c.close.ensures.told
+          c.close-closed.ensures.told
           ∙ ap (λ (r : ChosenRanking). told_at_close (world_of cube_meaning chosen_meaning (chosen_ahead r)) (state held)) did.ranking
           ∙ ap (λ s. told_at_close w s) (did.room ∙ ap (λ p. (session_end w (at p) calls).room) made);
       laws = subst (λ p. LawsOfRun w terms.number p terms.source (calls_made w (at p) calls)) made did.laws;
