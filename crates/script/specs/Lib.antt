@@ -10,6 +10,7 @@ pub mod SettingRefusals
 pub mod Setups
 pub mod Ranges
 pub mod Texts
+pub mod Misreadings
 pub mod Replies
 pub mod Shown
 pub mod Explained

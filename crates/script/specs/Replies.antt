@@ -1,5 +1,5 @@
 -- What statements are answered, and the text of it.
-use Rattle.std.specs.Prelude.{ℕ, List, ◌++◌, codes, Option, Some, None, Result, Ok, Err}
+use Rattle.std.specs.Prelude.{ℕ, List, ◌++◌, codes, Result, Ok, Err}
 use Rattle.std.specs.Fmt.{decimal}
 use Rattle.market.specs.declared.range.PermittedRange.{PermittedRange}
 use Rattle.market.specs.declared.refusal.RangeRefusal.{RangeRefusal}
@@ -10,18 +10,19 @@ use Rattle.script.specs.declared.setup.failure.SettingFailure.TheVariants as fai
 use Rattle.script.specs.declared.transcript.NotUnderstood.TheVariants as why
 use Rattle.script.specs.declared.transcript.Reply.{Reply}
 use Rattle.script.specs.declared.transcript.Reply.TheVariants.{Answered, SettingRefused, Permitted, RangeRefused, NotUnderstood}
+use Rattle.script.specs.Misreadings.{not_understood_text}
 use Rattle.script.specs.Ranges.{range_told}
 use Rattle.script.specs.SettingRefusals.{setting_refusal_number}
 use Rattle.script.specs.Texts.{answer_text, range_text}
 use Rattle.session.specs.declared.answers.Answer.TheVariants.{Accepted}
 
--- The text of a reply. In which words a line is not understood is not said here.
-abbrev pub reply_text : Reply → Option (List ℕ)
-reply_text (Answered a) = Some (answer_text a)
-reply_text (SettingRefused e) = Some (codes "refused " ++ decimal (setting_refusal_number e))
-reply_text (Permitted r) = Some (range_text r)
-reply_text (RangeRefused e) = Some (codes "refused " ++ decimal (range_number e))
-reply_text (NotUnderstood e) = None
+-- The text of a reply.
+abbrev pub reply_text : Reply → List ℕ
+reply_text (Answered a) = answer_text a
+reply_text (SettingRefused e) = codes "refused " ++ decimal (setting_refusal_number e)
+reply_text (Permitted r) = range_text r
+reply_text (RangeRefused e) = codes "refused " ++ decimal (range_number e)
+reply_text (NotUnderstood e) = codes "not understood: " ++ not_understood_text e
 
 -- A setting is accepted or refused, or comes too late to be understood.
 abbrev pub setting_reply : Result (Unit {0}) SettingFailure → Reply

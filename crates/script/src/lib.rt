@@ -11,4 +11,4 @@ pub mod shown;
 pub mod statement;
 pub mod transcript;
 mod words;
-mod write;
+pub mod write;

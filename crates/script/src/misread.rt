@@ -1,4 +1,7 @@
 // Why a line is not understood. Only what was expected is told, and never what the line says.
+ghost use Rattle.std.specs.Prelude.{Some};
+ghost use Rattle.script.specs.Misreadings.{expected_text, misread_text};
+
 use std::fmt;
 
 // What a line is to have at a place.
@@ -46,6 +49,8 @@ pub enum Misread {
 }
 
 impl fmt::Display for Expected {
+    ghost output = { λ x. Some (expected_text x) };
+
     fn fmt<W: fmt::Write>(&self, f: &mut fmt::Formatter<W>) -> fmt::Result {
         f.write_str(match self {
             Expected::Statement => {
@@ -56,24 +61,24 @@ impl fmt::Display for Expected {
             Expected::Ratio => "a ratio",
             Expected::Ranking => "arrival or size",
             Expected::Interval => "fixed or drawn",
-            Expected::Milliseconds => "milliseconds",
+            Expected::Milliseconds => "a number of milliseconds",
             Expected::Seed => "a seed",
             Expected::Time => "a time",
             Expected::Half => "leg or book",
             Expected::Leg => "a leg's number",
-            Expected::Bid => "a bid",
-            Expected::Offer => "an offer",
-            Expected::BookBid => "a bid or none",
-            Expected::BookOffer => "an offer or none",
+            Expected::Bid => "a bid in whole cents",
+            Expected::Offer => "an offer in whole cents",
+            Expected::BookBid => "a bid in whole cents or none",
+            Expected::BookOffer => "an offer in whole cents or none",
             Expected::Member => "a member's number",
             Expected::OwnNumber => "an own number",
             Expected::Kind => "sealed or plain",
             Expected::Class => "customer or other",
             Expected::Size => "a size",
             Expected::At => "@",
-            Expected::Limit => "a limit",
+            Expected::Limit => "a limit in whole cents",
             Expected::Guarantee => "stop or match",
-            Expected::Price => "a price",
+            Expected::Price => "a price in whole cents",
             Expected::Auction => "an auction's number",
             Expected::Rows => "a number of rows",
         })
@@ -81,6 +86,8 @@ impl fmt::Display for Expected {
 }
 
 impl fmt::Display for Misread {
+    ghost output = { λ x. Some (misread_text x) };
+
     fn fmt<W: fmt::Write>(&self, f: &mut fmt::Formatter<W>) -> fmt::Result {
         match self {
             Misread::Missing(what) => write!(f, "the line ends where {what} is expected"),
@@ -89,7 +96,7 @@ impl fmt::Display for Misread {
                 "{what} is expected, and something else stands there"
             ),
             Misread::Negative(what) => write!(f, "{what} is expected, with no minus"),
-            Misread::Surplus => write!(f, "the statement is whole, and words follow"),
+            Misread::Surplus => write!(f, "the line's end is expected, and words follow"),
         }
     }
 }

@@ -1,5 +1,6 @@
 // Why a setting is not taken, and what a room is still wanting.
-ghost use Rattle.std.specs.Prelude.{◌≡◌};
+ghost use Rattle.std.specs.Prelude.{◌≡◌, Some};
+ghost use Rattle.script.specs.Misreadings.{wanting_text};
 ghost use Rattle.script.specs.declared.setup.failure.SettingFailure.TheVariants.{Refused};
 ghost use Rattle.script.specs.declared.setup.failure.SettingRefusal.TheVariants as refusal;
 ghost use Rattle.script.specs.SettingRefusals.{setting_refusal_number};
@@ -60,6 +61,8 @@ impl SettingRefusal {
 }
 
 impl fmt::Display for Wanting {
+    ghost output = { λ x. Some (wanting_text x) };
+
     fn fmt<W: fmt::Write>(&self, f: &mut fmt::Formatter<W>) -> fmt::Result {
         f.write_str(match self {
             Wanting::Number => "the room has no number yet",

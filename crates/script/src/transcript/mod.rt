@@ -1,5 +1,6 @@
 // What a statement is answered, and its text, as the transcript has it behind the line's number.
-ghost use Rattle.std.specs.Prelude.{◌≡◌};
+ghost use Rattle.std.specs.Prelude.{◌≡◌, Some};
+ghost use Rattle.script.specs.Misreadings.{not_understood_text};
 ghost use Rattle.script.specs.Replies.{reply_text};
 
 pub mod answers;
@@ -35,6 +36,8 @@ pub enum NotUnderstood {
 }
 
 impl fmt::Display for NotUnderstood {
+    ghost output = { λ x. Some (not_understood_text x) };
+
     fn fmt<W: fmt::Write>(&self, f: &mut fmt::Formatter<W>) -> fmt::Result {
         match self {
             NotUnderstood::Misread(misread) => write!(f, "{misread}"),
@@ -45,7 +48,7 @@ impl fmt::Display for NotUnderstood {
 }
 
 impl fmt::Display for Reply {
-    ghost output = { reply_text };
+    ghost output = { λ x. Some (reply_text x) };
 
     fn fmt<W: fmt::Write>(&self, f: &mut fmt::Formatter<W>) -> fmt::Result {
         match self {
