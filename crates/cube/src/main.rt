@@ -6,6 +6,7 @@ mod command_line;
 use command_line::{Day, Task, USAGE};
 use day::transcript::{Transcript, transcript_for, whole_transcript};
 use script::explain::Explanation;
+use std::alloc::{AllocError, Global};
 use std::io::Read;
 use std::process::ExitCode;
 use std::{env, fs, io};
@@ -25,12 +26,20 @@ fn bytes_of(rt: &HostRuntime, file: Option<&str>) -> io::Result<Vec<u8>> {
     }
 }
 
-// Carries out the script. Bytes of it that are no text are in no word that is understood.
+// The script carried out. Bytes of it that are no text are in no word that is understood.
+fn transcript(heap: Global, bytes: &[u8], member: Option<u8>) -> Result<Transcript, AllocError> {
+    let script = String::from_utf8_lossy(heap, bytes)?;
+    match member {
+        Some(member) => transcript_for(heap, &script, member),
+        None => whole_transcript(heap, &script),
+    }
+}
+
+// Prints the transcript of the script.
 fn carry_out(rt: &HostRuntime, bytes: &[u8], member: Option<u8>) -> io::Result<ExitCode> {
-    let script = String::from_utf8_lossy(rt.alloc(), bytes)?;
-    let Transcript { text, understood } = match member {
-        Some(member) => transcript_for(rt.alloc(), &script, member)?,
-        None => whole_transcript(rt.alloc(), &script)?,
+    let Ok(Transcript { text, understood }) = transcript(rt.alloc(), bytes, member) else {
+        eprintln!(rt; "cube: there is not enough memory for this script")?;
+        return Ok(ExitCode::from(UNABLE));
     };
     rt.print(text)?;
     Ok(if understood {
