@@ -3,4 +3,5 @@ pub mod Lines
 pub mod Calls
 pub mod CarriedOut
 pub mod ForMember
+pub mod WholeText
 pub mod Alike

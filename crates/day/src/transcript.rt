@@ -1,12 +1,14 @@
 // The transcript of a script: the text of its answers.
 ghost use Rattle.std.specs.Prelude.{◌≡◌, IfOk, string_bytes};
 ghost use Rattle.day.specs.ForMember.{TextFor, TranscriptFor};
+ghost use Rattle.day.specs.WholeText.{WholeTranscript};
 ghost use Rattle.day.specs.Lines.{is_understood, is_all_understood, script_lines};
 
 use crate::calls::calls_in;
 use crate::lines::{Line, Said, Script};
+use crate::member::write_lines;
 use crate::outcome::{Outcome, carry_out};
-use crate::{member, whole};
+use crate::whole::{replies_text, whole_text};
 use script::setup::RoomTerms;
 use script::transcript::Reply;
 use std::alloc::{AllocError, Global};
@@ -42,7 +44,7 @@ fn text_for(
     let calls = calls_in(heap, lines, terms.number)?;
     let Outcome { answers, closed: _ } = carry_out(heap, terms, calls)?;
     let mut text = String::new(heap);
-    member::write_lines(&mut text, lines, &answers, member)?;
+    write_lines(&mut text, lines, &answers, member)?;
     Ok(text)
 }
 
@@ -62,14 +64,14 @@ pub fn transcript_for(heap: Global, script: &str, member: u8) -> Result<Transcri
 
 // Carries out a script. The text has the answers to all its statements, and those to the collectings at its end.
 pub fn whole_transcript(heap: Global, script: &str) -> Result<Transcript, AllocError>
-    ensures { IfOk result (λ t. t.understood ≡ is_all_understood (script_lines script.now)) }
+    ensures text { IfOk result (λ t. WholeTranscript script.now (string_bytes t.text)) }
+    ensures understood { IfOk result (λ t. t.understood ≡ is_all_understood (script_lines script.now)) }
 {
     let Script { lines, room } = Script::read(heap, script)?;
     let understood = is_all_understood(&lines);
-    let mut text = String::new(heap);
-    match room {
-        Some(terms) => whole::write_day(&mut text, heap, lines, terms)?,
-        None => whole::write_lines(&mut text, lines, None)?,
-    }
+    let text = match room {
+        Some(terms) => whole_text(heap, &lines, terms)?,
+        None => replies_text(heap, &lines)?,
+    };
     Ok(Transcript { text, understood })
 }

@@ -1,4 +1,14 @@
 // A whole transcript.
+ghost use Rattle.std.specs.Prelude.{◌≡◌, ◌++◌, [], ◌∷◌, IfOk, OnOk, string_bytes};
+ghost use Rattle.std.specs.Option.{option_map};
+ghost use Rattle.market.specs.Cube.{cube_position, cube_meaning};
+ghost use Rattle.market.specs.Range.{permitted};
+ghost use Rattle.script.specs.Replies.{range_reply};
+ghost use Rattle.session.specs.Desks.{closed_told, listed_told};
+ghost use Rattle.session.specs.Sessions.{given};
+ghost use Rattle.day.specs.ForMember.{answers_behind};
+ghost use Rattle.day.specs.WholeText.{market_after, market_behind, whole_line, whole_lines, end_lines, WholeTextOf, reply_line, reply_lines};
+
 use crate::calls::calls_in;
 use crate::lines::{Line, Said};
 use crate::outcome::{Outcome, carry_out};
@@ -6,88 +16,132 @@ use market::cube::{CubeFault, CubeMarket, cube_market};
 use market::market::Market;
 use market::range::permitted::permitted_range;
 use script::setup::RoomTerms;
-use script::statement::{CallStatement, RangeQuestion};
+use script::statement::{CallStatement, RangeQuestion, same_tick};
 use script::transcript::Reply;
-use script::transcript::answers::AnswerText;
+use script::transcript::answers::{AnswerText, CollectedText};
 use session::answers::Answer;
 use session::desk::ClosedAuction;
 use std::alloc::{AllocError, Global};
-use std::vec::IntoIter;
 
-// The answers that are still to come, and a market of the transcript's own, for questions about ranges.
-#[derive(Drop)]
-pub(crate) struct Played {
-    answers: IntoIter<Answer<CubeFault>>,
-    market: CubeMarket,
-}
-
-impl Played {
-    // The next answer. The market takes a tick that the room accepted.
-    fn call(&mut self, call: CallStatement) -> Option<Reply> {
-        let answer = self.answers.next()?;
-        if let (CallStatement::Tick { time: _, tick }, Answer::Accepted) = (call, &answer) {
-            let _ = self.market.tick(tick);
-        }
-        Some(Reply::Answered(answer))
-    }
-
-    fn range(&self, question: RangeQuestion) -> Reply {
-        let RangeQuestion { side, limit } = question;
-        Reply::to_range(permitted_range(&self.market, side, limit))
+// The transcript has a market of its own, for questions about ranges. It takes each tick that the room accepted.
+fn take_tick(market: &mut CubeMarket, call: &CallStatement, answer: &Answer<CubeFault>)
+    ensures { cube_position market.new ≡ market_after (cube_position market.old) call.now answer.now }
+{
+    if let (CallStatement::Tick { time: _, tick }, Answer::Accepted) = (call, answer) {
+        let _ = market.tick(same_tick(tick));
     }
 }
 
-// What a line is answered. Without a room there are no calls and no questions.
-fn reply_to(played: &mut Option<Played>, said: Said) -> Option<Reply> {
-    match said {
-        Said::Replied(reply) => Some(reply),
-        Said::Call(call) => played.as_mut()?.call(call),
-        Said::Range(question) => Some(played.as_ref()?.range(question)),
-    }
+fn range_in(market: &CubeMarket, question: RangeQuestion) -> Reply
+    ensures { result ≡ range_reply (permitted question.side question.limit (cube_meaning.shows (cube_position market.now))) }
+{
+    let RangeQuestion { side, limit } = question;
+    Reply::to_range(permitted_range(market, side, limit))
 }
 
-pub(crate) fn write_lines(
+// Writes the answer to a line, and hands on the answers behind it.
+fn write_line<'a>(
     text: &mut String,
-    lines: Vec<Line>,
-    played: Option<Played>,
-) -> Result<(), AllocError> {
-    let mut played = played;
-    for Line { number, said } in lines {
-        if let Some(reply) = reply_to(&mut played, said) {
+    market: &mut CubeMarket,
+    line: &Line,
+    answers: &'a [Answer<CubeFault>],
+) -> Result<&'a [Answer<CubeFault>], AllocError>
+    ensures text { OnOk result (string_bytes text.new ≡ string_bytes text.old ++ whole_line (cube_position market.old) line.now.number line.now.said answers.now) }
+    ensures market { OnOk result (cube_position market.new ≡ market_behind (cube_position market.old) line.now.said answers.now) }
+    ensures behind { IfOk result (λ rest. rest.now ≡ answers_behind line.now.said answers.now) }
+{
+    let number = line.number;
+    match (&line.said, answers) {
+        (Said::Replied(reply), _) => writeln!(text, "{number}: {reply}")?,
+        (Said::Range(question), _) => {
+            let reply = range_in(market, *question);
             writeln!(text, "{number}: {reply}")?;
         }
+        (Said::Call(call), [answer, rest @ ..]) => {
+            take_tick(market, call, answer);
+            let answer = AnswerText(answer);
+            writeln!(text, "{number}: {answer}")?;
+            return Ok(rest);
+        }
+        (Said::Call(_), []) => {}
+    }
+    Ok(answers)
+}
+
+// Writes all lines, from a market on.
+fn write_lines(
+    text: &mut String,
+    market: CubeMarket,
+    lines: &[Line],
+    answers: &[Answer<CubeFault>],
+) -> Result<(), AllocError>
+    ensures { OnOk result (string_bytes text.new ≡ string_bytes text.old ++ whole_lines (cube_position market) lines.now answers.now) }
+{
+    let mut market = market;
+    let mut answers = answers;
+    for line in lines {
+        answers = write_line(text, &mut market, line, answers)?;
     }
     Ok(())
 }
 
 // An auction that was collected at the end of the script.
-fn write_closed(
-    text: &mut String,
-    heap: Global,
-    closed: Option<ClosedAuction>,
-) -> Result<(), AllocError> {
+fn write_closed(text: &mut String, closed: &Option<ClosedAuction>) -> Result<(), AllocError>
+    ensures { OnOk result (string_bytes text.new ≡ string_bytes text.old ++ end_lines (given (option_map closed_told closed.now ∷ []))) }
+{
     if let Some(auction) = closed {
-        let rows = auction.rows().to_vec(heap)?;
-        let answer = Answer::Collected(auction.collection, rows);
-        writeln!(text, "end: {}", AnswerText(&answer))?;
+        let collected = CollectedText(auction.collection, auction.rows());
+        writeln!(text, "end: {collected}")?;
     }
     Ok(())
 }
 
-// Carries out the calls of the lines, and writes the answers to all lines and those at the end.
-pub(crate) fn write_day(
+// The auctions that were collected at the end of the script, the older one first.
+fn write_end(
     text: &mut String,
+    first: &Option<ClosedAuction>,
+    second: &Option<ClosedAuction>,
+) -> Result<(), AllocError>
+    ensures { OnOk result (string_bytes text.new ≡ string_bytes text.old ++ end_lines (listed_told first.now second.now)) }
+{
+    write_closed(text, first)?;
+    write_closed(text, second)
+}
+
+// Carries out the calls of the lines, and writes the answers to all lines and those at the end.
+pub(crate) fn whole_text(
     heap: Global,
-    lines: Vec<Line>,
+    lines: &[Line],
     terms: RoomTerms,
-) -> Result<(), AllocError> {
-    let calls = calls_in(heap, &lines, terms.number)?;
+) -> Result<String, AllocError>
+    ensures { IfOk result (λ text. WholeTextOf terms lines.now (string_bytes text)) }
+{
+    let calls = calls_in(heap, lines, terms.number)?;
     let Outcome { answers, closed } = carry_out(heap, terms, calls)?;
-    let played = Played {
-        answers: answers.into_iter(),
-        market: cube_market(terms.legs),
-    };
-    write_lines(text, lines, Some(played))?;
-    write_closed(text, heap, closed.first)?;
-    write_closed(text, heap, closed.second)
+    let mut text = String::new(heap);
+    write_lines(&mut text, cube_market(terms.legs), lines, &answers)?;
+    write_end(&mut text, &closed.first, &closed.second)?;
+    Ok(text)
+}
+
+// Writes a line that is answered at once.
+fn write_reply(text: &mut String, line: &Line) -> Result<(), AllocError>
+    ensures { OnOk result (string_bytes text.new ≡ string_bytes text.old ++ reply_line line.now.number line.now.said) }
+{
+    if let Said::Replied(reply) = &line.said {
+        let number = line.number;
+        writeln!(text, "{number}: {reply}")?;
+    }
+    Ok(())
+}
+
+// The text of lines for which there is no room.
+pub(crate) fn replies_text(heap: Global, lines: &[Line]) -> Result<String, AllocError>
+    ensures { IfOk result (λ text. string_bytes text ≡ reply_lines lines.now) }
+{
+    let mut text = String::new(heap);
+    for line in lines {
+        write_reply(&mut text, line)?;
+    }
+    Ok(text)
 }

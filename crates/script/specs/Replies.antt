@@ -1,9 +1,8 @@
 -- What statements are answered, and the text of it.
 use Rattle.std.specs.Prelude.{ℕ, List, ◌++◌, codes, Result, Ok, Err}
 use Rattle.std.specs.Fmt.{decimal}
-use Rattle.market.specs.declared.range.PermittedRange.{PermittedRange}
 use Rattle.market.specs.declared.refusal.RangeRefusal.{RangeRefusal}
-use Rattle.market.specs.Range.{range_prices}
+use Rattle.market.specs.Range.{RangePrices}
 use Rattle.market.specs.Refusals.{range_number}
 use Rattle.script.specs.declared.setup.failure.SettingFailure.{SettingFailure}
 use Rattle.script.specs.declared.setup.failure.SettingFailure.TheVariants as failure
@@ -31,6 +30,6 @@ setting_reply (Err (failure.Refused e)) = SettingRefused e
 setting_reply (Err failure.AfterFirstCall) = NotUnderstood why.AfterFirstCall
 
 -- A question is answered by a range, or refused.
-abbrev pub range_reply : Result PermittedRange RangeRefusal → Reply
-range_reply (Ok r) = Permitted (range_told (range_prices r))
+abbrev pub range_reply : Result RangePrices RangeRefusal → Reply
+range_reply (Ok r) = Permitted (range_told r)
 range_reply (Err e) = RangeRefused e

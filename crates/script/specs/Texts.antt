@@ -71,12 +71,16 @@ refusal_text e = decimal (refusal_number e) ++ fault_behind e
 abbrev pub collection_text : Collection → List ℕ
 collection_text c = decimal c.count ++ codes " cause " ++ cause_letter c.cause ∷ []
 
+-- collected 4 cause T, and the rows
+abbrev pub collected_text : Collection → List FillRow → List ℕ
+collected_text c rows = codes "collected " ++ collection_text c ++ rows_text rows
+
 abbrev pub answer_text : Answer (Half Fault Fault) → List ℕ
 answer_text (Opened c) = codes "opened " ++ decimal c.auction
 answer_text (Stored s) = codes "stored " ++ stored_text s
 answer_text Accepted = codes "accepted"
 answer_text (Looked v) = view_text v
-answer_text (Collected c rows) = codes "collected " ++ collection_text c ++ rows_text rows.items
+answer_text (Collected c rows) = collected_text c rows.items
 answer_text (Refused e) = codes "refused " ++ refusal_text e
 answer_text NoClaim = codes "no claim"
 

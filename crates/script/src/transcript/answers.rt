@@ -1,8 +1,9 @@
 // The text of the answers to calls.
 ghost use Rattle.std.specs.Prelude.{Some};
-ghost use Rattle.script.specs.Texts.{stored_text, auction_text, view_text, fault_text, refusal_text, collection_text, answer_text};
+ghost use Rattle.script.specs.Texts.{stored_text, auction_text, view_text, fault_text, refusal_text, collection_text, collected_text, answer_text};
 
 use super::rows::RowsText;
+use allocation::fill::FillRow;
 use market::better_of::Half;
 use market::cube::CubeFault;
 use room::answers::{AuctionView, Collection, StoredTerms, View};
@@ -116,6 +117,20 @@ impl fmt::Display for CollectionText {
     }
 }
 
+// What a collecting tells, with the rows.
+#[derive(Clone, Copy)]
+pub struct CollectedText<'a>(pub Collection, pub &'a [FillRow]);
+
+impl fmt::Display for CollectedText<'_> {
+    ghost output = { λ x. Some (collected_text x.0 x.1.now) };
+
+    fn fmt<W: fmt::Write>(&self, f: &mut fmt::Formatter<W>) -> fmt::Result {
+        let collection = CollectionText(self.0);
+        let rows = RowsText(self.1);
+        write!(f, "collected {collection}{rows}")
+    }
+}
+
 // The answer to a call.
 #[derive(Clone, Copy)]
 pub struct AnswerText<'a>(pub &'a Answer<CubeFault>);
@@ -139,9 +154,8 @@ impl fmt::Display for AnswerText<'_> {
                 write!(f, "{view}")
             }
             Answer::Collected(collection, rows) => {
-                let collection = CollectionText(*collection);
-                let rows = RowsText(rows);
-                write!(f, "collected {collection}{rows}")
+                let collected = CollectedText(*collection, rows);
+                write!(f, "{collected}")
             }
             Answer::Refused(refusal) => {
                 let refusal = RefusalText(refusal);

@@ -1,5 +1,6 @@
 // Outcomes of a statement as replies.
 ghost use Rattle.std.specs.Prelude.{◌≡◌};
+ghost use Rattle.market.specs.Range.{range_answer};
 ghost use Rattle.script.specs.Replies.{setting_reply, range_reply};
 ghost use Rattle.script.specs.declared.transcript.NotUnderstood.TheVariants as why;
 
@@ -43,7 +44,7 @@ impl Reply {
 
     // What a question for a range is answered.
     pub fn to_range(outcome: Result<PermittedRange, RangeRefusal>) -> Reply
-        ensures { result ≡ range_reply outcome }
+        ensures { result ≡ range_reply (range_answer outcome) }
     {
         match outcome {
             Ok(range) => Reply::Permitted(RangeTold::new(range)),

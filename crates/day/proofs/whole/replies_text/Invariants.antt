@@ -1,0 +1,7 @@
+-- What is written so far, with what the lines to come say, is what all of them say.
+use Rattle.std.proofs.Common.{◌≡◌, ◌++◌, drop, string_bytes}
+use Rattle.day.specs.WholeText.{reply_lines}
+use Rattle.day.proofs.whole.replies_text.Given as goal
+
+abbrev pub invariant-loop-line : goal.invariant-loop-line
+invariant-loop-line l = string_bytes l.text ++ reply_lines (drop l.line-index l.fn.lines) ≡ reply_lines l.fn.lines
