@@ -1,2 +1,3 @@
 mod LinesRead
 mod Alike
+mod AtOnce

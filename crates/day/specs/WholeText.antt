@@ -1,6 +1,6 @@
 -- What the transcript of a whole script says.
-use Rattle.std.specs.Prelude.{◌≡◌, ℕ, List, [], ◌∷◌, ◌++◌, codes, vec_items, Option, Some, None}
-use Rattle.std.specs.List.{flat_map}
+use Rattle.std.specs.Prelude.{◌≡◌, ℕ, Bool, true, false, List, [], ◌∷◌, ◌++◌, codes, vec_items, Option, Some, None}
+use Rattle.std.specs.List.{flat_map, list_all}
 use Rattle.std.specs.Option.{option_map}
 use Rattle.std.specs.Str.Lines.{lines}
 use Rattle.day.specs.declared.lines.Line.{Line}
@@ -72,7 +72,7 @@ pub record WholeTextOf (terms : RoomTerms) (ls : List Line) (text : List ℕ) : 
   pub written : text ≡ whole_lines (cube_start (legs_of terms.legs)) ls (vec_items outcome.answers)
       ++ end_lines (told_at_close (world_in terms) (session_end (world_in terms) (at_first terms) (calls_in terms.number ls)).room)
 
--- Where there is no room, only what is answered at once has an answer.
+-- Where there is no room, the answers are those that are given at once.
 abbrev pub reply_line : ℕ → Said → List ℕ
 reply_line number (Replied r) = transcript_line number (reply_text r)
 reply_line number (Range q) = []
@@ -85,8 +85,19 @@ abbrev pub WholeTextIn : Option RoomTerms → List Line → List ℕ → Type 0
 WholeTextIn None ls text = text ≡ reply_lines ls
 WholeTextIn (Some terms) ls text = WholeTextOf terms ls text
 
+-- And no line is left out there: it has no call and no question.
+abbrev pub is_at_once : Said → Bool
+is_at_once (Replied r) = true
+is_at_once (Range q) = false
+is_at_once (Call c) = false
+
+abbrev pub NoneLeftOut : Option RoomTerms → List Line → Type 0
+NoneLeftOut None ls = list_all (λ l. is_at_once l.said) ls ≡ true
+NoneLeftOut (Some terms) ls = Unit {0}
+
 -- The text of a whole script: of its lines, in the room that is made of what it tells.
 pub record WholeTranscript (script text : List ℕ) : Type 0 where
   pub room : Option RoomTerms
   pub made : option_map room_told room ≡ room_of (room_in (told_behind_lines nothing_told (lines script)))
   pub written : WholeTextIn room (script_lines script) text
+  pub none_left_out : NoneLeftOut room (script_lines script)

@@ -63,6 +63,7 @@ pub fn transcript_for(heap: Global, script: &str, member: u8) -> Result<Transcri
 }
 
 // Carries out a script. The text has the answers to all its statements, and those to the collectings at its end.
+#[tactic(auto, using(crate::proofs::AtOnce::none_left_out))]
 pub fn whole_transcript(heap: Global, script: &str) -> Result<Transcript, AllocError>
     ensures text { IfOk result (λ t. WholeTranscript script.now (string_bytes t.text)) }
     ensures understood { IfOk result (λ t. t.understood ≡ is_all_understood (script_lines script.now)) }
