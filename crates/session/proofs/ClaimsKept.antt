@@ -155,11 +155,11 @@ module _ {P T F Q : Type 0} (w : World P T F Q) where
         ∙ sym (ap claims_to (d.after_is ∙ ap (λ (v : RoomState P Q). with_waiting (without_number d.claim.auction v.waiting) v) here))
 
     match_after : is_made c purse ≡ true → Did w m → purse_after c m.answer purse ≡ claims_to m.after
-    match_after made (idle b e k) = quiet_match (subst (SameHeld m.stepped) (sym e) (record { same_auctions = refl; same_number = refl })) k.opens_none k.collects_none
+    match_after made (idle b i e k) = quiet_match (subst (SameHeld m.stepped) (sym e) (record { same_auctions = refl; same_number = refl })) k.opens_none k.collects_none
     match_after made (opened d) = opened_match d
-    match_after made (stored a b t e y g like told sound k) =
-        quiet_match (subst (SameHeld m.stepped) (sym k) (responded_held (plain_below a.values.order.side a.values.floor m.call) m.stepped a b e like.same_number))
-        (ap (λ (v : Answer F). opened_number v) y) (ap (λ (v : Answer F). is_collected v) y)
+    match_after made (stored d) =
+        quiet_match (subst (SameHeld m.stepped) (sym d.after_is) (responded_held (plain_below d.was.values.order.side d.was.values.floor m.call) m.stepped d.was d.now d.was_open d.same.same_number))
+        (ap (λ (v : Answer F). opened_number v) d.answer_is) (ap (λ (v : Answer F). is_collected v) d.answer_is)
     match_after made (ticks t x j y f) =
         let at = at_position (w.market.next m.stepped.position x) m.stepped in
         let held = ticked_held m.stepped.current (w.market.shows (w.market.next m.stepped.position x)) at refl in

@@ -2,6 +2,9 @@
 -- (Sharing), and all of them (RunLaws).
 pub mod Learning
 pub mod Ending
+mod Inputs
+mod Linked
+pub mod Looking
 pub mod Sharing
 pub mod RunLaws
 mod Choices

@@ -7,6 +7,7 @@ use Rattle.session.specs.Sessions.{Session}
 use Rattle.session.proofs.Ending.Laws.{auctions_end_as_ruled}
 use Rattle.session.proofs.Learning.Learned.{member_sees_the_same}
 use Rattle.session.proofs.Learning.LearnedInSessions.{member_sees_the_same_in_sessions}
+use Rattle.session.proofs.Looking.{looks_tell_the_history}
 use Rattle.session.proofs.SessionRuns.{answers_of_moments}
 use Rattle.session.proofs.Sharing.{contracts_are_shared_lawfully}
 
@@ -14,6 +15,7 @@ pub run_laws : {P T F Q : Type 0} (w : World P T F Q) → Terms w → RunLaws w
 run_laws w terms = record {
   learning = member_sees_the_same w;
   session_learning = member_sees_the_same_in_sessions w;
+  looks = looks_tell_the_history w terms;
   ending = auctions_end_as_ruled w terms;
   sharing = contracts_are_shared_lawfully w terms;
 }
@@ -24,6 +26,7 @@ laws_of_run w terms number p q cs =
     let ends = auctions_end_as_ruled w terms number p q cs in
     record {
       learning = λ u ds. member_sees_the_same w number p q u cs ds;
+      looks = looks_tell_the_history w terms number p q cs;
       within_a_second = ends.0;
       after_the_clock_step = ends.1;
       not_too_soon = ends.2;

@@ -15,17 +15,17 @@ use Rattle.allocation.specs.Splits.{guaranteed}
 use Rattle.room.specs.declared.answers.ClaimNumbers.{ClaimNumbers}
 use Rattle.room.specs.declared.answers.Collection.{Collection}
 use Rattle.room.specs.Collecting.{fill_rows}
-use Rattle.room.specs.State.{EndedAuction, RoomState, new_room, numbered}
+use Rattle.room.specs.State.{OpenAuction, EndedAuction, RoomState, new_room, numbered}
 use Rattle.room.specs.World.{World, Terms}
 use Rattle.session.specs.declared.calls.Call.{Call}
 use Rattle.session.specs.declared.calls.Call.TheVariants.{Collect}
-use Rattle.session.specs.History.{OpeningFacts, guarantee_of, floor_of, stood_in, is_collected}
+use Rattle.session.specs.History.{Story, guarantee_of, is_collected}
 use Rattle.session.specs.Runs.{Answer, Collected, Moment, moment, step}
 use Rattle.session.specs.Sharing.{ToldFillLaws, SharedLawfully, CollectedLawfully, ContractsAreSharedLawfully}
 use Rattle.session.proofs.Ending.Held.{Holds, holds_new}
 use Rattle.session.proofs.Ending.Laws.{throughout, waits_over}
-use Rattle.session.proofs.Ending.Lives.{Tells}
 use Rattle.session.proofs.Ending.Shapes.{CollectedHere, collected_or_not, did}
+use Rattle.session.proofs.Linked.{Matches}
 use Rattle.room.proofs.Sound.{Sound}
 use Rattle.room.proofs.Tests.{true_false}
 
@@ -47,15 +47,16 @@ module _ {P T F Q : Type 0} (w : World P T F Q) (p : P) (q : Q) where
         only = subst (λ (n : ℕ). OnlyTheseShares held.order.side held.order.size held.floor held.order.guarantee held.initiating (guaranteed held.order.size n) held.stood (fill_rows w e)) counted only;
       })
 
-  -- and so it is of the values that the history tells
-  told_lawful : (n : ℕ) (past : List (Moment P T F Q)) (f : OpeningFacts) (e : EndedAuction) → Tells w p q n past f e.values
-      → ToldFillLaws f.order.side f.order.size (guarantee_of f) (floor_of w p q n f past) f.range.initiating (stood_in n past) (fill_rows w e)
-  told_lawful n past f e t =
-      let laws = sound_lawful e.values e refl t.sound in
-      let stood = subst (λ (l : List Told). ToldFillLaws e.values.order.side e.values.order.size e.values.order.guarantee e.values.floor e.values.initiating l (fill_rows w e)) t.stood_is laws in
-      let initiating = subst (λ (z : ℤ). ToldFillLaws e.values.order.side e.values.order.size e.values.order.guarantee e.values.floor z (stood_in n past) (fill_rows w e)) t.initiating_is stood in
-      let floor = subst (λ (z : ℤ). ToldFillLaws e.values.order.side e.values.order.size e.values.order.guarantee z f.range.initiating (stood_in n past) (fill_rows w e)) t.floor_is initiating in
-      subst (λ (o : PairedOrder). ToldFillLaws o.side o.size o.guarantee (floor_of w p q n f past) f.range.initiating (stood_in n past) (fill_rows w e)) t.order_is floor
+  -- and so it is of what its story tells
+  told_lawful : (f : Story) (e : EndedAuction) (was : OpenAuction) → e.values ≡ was.values → Matches f was
+      → ToldFillLaws f.opening.order.side f.opening.order.size (guarantee_of f.opening) f.floor f.opening.range.initiating f.stood (fill_rows w e)
+  told_lawful f e was k t =
+      let v = was.values in
+      let laws = sound_lawful v e k t.sound in
+      let stood = subst (λ (l : List Told). ToldFillLaws v.order.side v.order.size v.order.guarantee v.floor v.initiating l (fill_rows w e)) t.stood_is laws in
+      let initiating = subst (λ (z : ℤ). ToldFillLaws v.order.side v.order.size v.order.guarantee v.floor z f.stood (fill_rows w e)) t.initiating_is stood in
+      let floor = subst (λ (z : ℤ). ToldFillLaws v.order.side v.order.size v.order.guarantee z f.opening.range.initiating f.stood (fill_rows w e)) t.floor_is initiating in
+      subst (λ (o : PairedOrder). ToldFillLaws o.side o.size o.guarantee f.floor f.opening.range.initiating f.stood (fill_rows w e)) t.order_is floor
 
   module _ (drawn : WithinLimits w.source) (number : ℕ) (past : List (Moment P T F Q)) (s : RoomState P Q) (c : Call T) (h : Holds w drawn number p q past s) where
     -- what an accepted collecting answers
@@ -70,9 +71,11 @@ module _ {P T F Q : Type 0} (w : World P T F Q) (p : P) (q : Q) where
         let wrote : fill_rows w x ≡ fs = cc in
         let told : record { count = length (fill_rows w x); cause = x.cause } ≡ k = cc in
         record {
-          opened_with = over.facts;
-          was_opened = over.opened_as;
-          laws = subst (ToldFillLaws over.facts.order.side over.facts.order.size (guarantee_of over.facts) (floor_of w p q auction over.facts past) over.facts.range.initiating (stood_in auction past)) wrote (told_lawful auction past over.facts x over.tells);
+          story = over.story;
+          is_its_story = over.is_its_story;
+          laws =
+              let f = over.story in
+              subst (ToldFillLaws f.opening.order.side f.opening.order.size (guarantee_of f.opening) f.floor f.opening.range.initiating f.stood) wrote (told_lawful f x over.was over.as_it_was over.matches);
           as_many_as_told = ap length (sym wrote) ∙ ap (λ (z : Collection). z.count) told;
         }
     shared_by (inr none) room auction long k fs e a = true_false (sym (ap (λ (z : Answer F). is_collected z) a) ∙ none)

@@ -1,8 +1,9 @@
--- What a history tells of an auction: from the calls, the accepted answers and what market and source answer at their
--- positions, without a look at what the room keeps. A history is a list of moments, the newest first. Of a room only its
--- time and the number of its open auction are read.
-use Rattle.std.specs.Prelude.{ℕ, ◌+◌, Bool, true, false, cond, not, ◌&&◌, ◌||◌, List, [], ◌∷◌, ◌++◌, ℤ, is_some, Some, None, Ok, Err, Option, Result, ◌==◌, int_lt, nat_le}
+-- What a history tells: from calls and what they were answered, and from what market and source answer at the positions to
+-- which accepted ticks and accepted openings lead. A history is a list of exchanges, the newest first; nothing of a room is
+-- in it.
+use Rattle.std.specs.Prelude.{ℕ, zero, suc, ◌+◌, max, Bool, true, false, cond, not, ◌&&◌, ◌||◌, List, [], ◌∷◌, ◌++◌, map, ℤ, is_some, Some, None, Ok, Err, Option, Result, ◌==◌, int_lt, nat_le}
 use Rattle.std.specs.Int.{int_max}
+use Rattle.std.specs.Option.{option_map}
 use Rattle.market.specs.declared.range.TurnedQuote.{TurnedQuote}
 use Rattle.market.specs.declared.refusal.RangeRefusal.{RangeRefusal}
 use Rattle.market.specs.declared.side.Side.{Side}
@@ -17,13 +18,20 @@ use Rattle.allocation.specs.declared.order.PairedOrder.{PairedOrder}
 use Rattle.allocation.specs.declared.response.Kind.{Kind}
 use Rattle.allocation.specs.declared.response.Kind.TheVariants.{Sealed, Plain}
 use Rattle.allocation.specs.FillLaws.{Told}
+use Rattle.room.specs.declared.answers.AuctionView.{AuctionView}
 use Rattle.room.specs.declared.answers.StoredTerms.{StoredTerms}
+use Rattle.room.specs.declared.answers.View.{View}
 use Rattle.room.specs.declared.requests.ResponseRequest.{ResponseRequest}
-use Rattle.room.specs.State.{RoomState, is_number}
 use Rattle.room.specs.World.{World}
 use Rattle.session.specs.declared.calls.Call.{Call}
-use Rattle.session.specs.declared.calls.Call.TheVariants.{Open, Respond, Change, Withdraw, Tick, Halt, Resume, Clock, Look, Collect}
-use Rattle.session.specs.Runs.{Answer, Opened, Stored, Accepted, Looked, Collected, Refused, Moment}
+use Rattle.session.specs.declared.calls.Call.TheVariants.{Open, Respond, Change, Withdraw, Tick, Halt, Resume, Collect}
+use Rattle.session.specs.Inputs.{first_that_holds, input_reason}
+use Rattle.session.specs.Runs.{Answer, Opened, Stored, Accepted, Collected, Moment, given_time}
+
+-- A call and what it was answered.
+pub record Exchange (T F : Type 0) : Type 0 where
+  pub call : Call T
+  pub answer : Answer F
 
 -- A price that is shown is above another; no price is above nothing.
 abbrev pub is_above : Option ℤ → ℤ → Bool
@@ -49,46 +57,25 @@ abbrev pub is_plain_kind : Kind → Bool
 is_plain_kind Sealed = false
 is_plain_kind Plain = true
 
--- The first of some causes whose test holds.
-abbrev pub first_of : List (Bool × EndCause) → Option EndCause
-first_of [] = None
-first_of (x ∷ xs) = cond x.0 (Some x.1) (first_of xs)
-
 -- The number of the auction that an accepted opening opened.
 abbrev pub opened_number : {F : Type 0} → Answer F → Option ℕ
 opened_number (Opened c) = Some c.auction
-opened_number (Stored x) = None
-opened_number Accepted = None
-opened_number (Looked v) = None
-opened_number (Collected k fs) = None
-opened_number (Refused e) = None
+opened_number _ = None
 
 -- The stored price and size that an accepted response, change or withdrawal was told.
 abbrev pub told_terms : {F : Type 0} → Answer F → Option StoredTerms
-told_terms (Opened c) = None
 told_terms (Stored x) = Some x
-told_terms Accepted = None
-told_terms (Looked v) = None
-told_terms (Collected k fs) = None
-told_terms (Refused e) = None
+told_terms _ = None
 
 -- A tick, a halt, a resume or a clock call was accepted.
 abbrev pub is_accepted : {F : Type 0} → Answer F → Bool
-is_accepted (Opened c) = false
-is_accepted (Stored x) = false
 is_accepted Accepted = true
-is_accepted (Looked v) = false
-is_accepted (Collected k fs) = false
-is_accepted (Refused e) = false
+is_accepted _ = false
 
 -- A collecting was accepted.
 abbrev pub is_collected : {F : Type 0} → Answer F → Bool
-is_collected (Opened c) = false
-is_collected (Stored x) = false
-is_collected Accepted = false
-is_collected (Looked v) = false
 is_collected (Collected k fs) = true
-is_collected (Refused e) = false
+is_collected _ = false
 
 -- It is this number.
 abbrev pub is_same : ℕ → Option ℕ → Bool
@@ -98,54 +85,34 @@ is_same n (Some k) = k == n
 -- The order that an opening hands in, not turned.
 abbrev pub order_in : {T : Type 0} → Call T → Option PairedOrder
 order_in (Open x) = Some x.order
-order_in (Respond x) = None
-order_in (Change x) = None
-order_in (Withdraw x) = None
-order_in (Tick t x) = None
-order_in (Halt t) = None
-order_in (Resume t) = None
-order_in (Clock t) = None
-order_in Look = None
-order_in (Collect c n) = None
+order_in _ = None
 
 -- The tick that a call hands in.
 abbrev pub tick_in : {T : Type 0} → Call T → Option T
-tick_in (Open x) = None
-tick_in (Respond x) = None
-tick_in (Change x) = None
-tick_in (Withdraw x) = None
 tick_in (Tick t x) = Some x
-tick_in (Halt t) = None
-tick_in (Resume t) = None
-tick_in (Clock t) = None
-tick_in Look = None
-tick_in (Collect c n) = None
+tick_in _ = None
 
 -- A halt.
 abbrev pub is_halt : {T : Type 0} → Call T → Bool
-is_halt (Open x) = false
-is_halt (Respond x) = false
-is_halt (Change x) = false
-is_halt (Withdraw x) = false
-is_halt (Tick t x) = false
 is_halt (Halt t) = true
-is_halt (Resume t) = false
-is_halt (Clock t) = false
-is_halt Look = false
-is_halt (Collect c n) = false
+is_halt _ = false
 
 -- The auction whose claim a call hands in.
 abbrev pub claimed : {T : Type 0} → Call T → Option ℕ
-claimed (Open x) = None
-claimed (Respond x) = None
-claimed (Change x) = None
-claimed (Withdraw x) = None
-claimed (Tick t x) = None
-claimed (Halt t) = None
-claimed (Resume t) = None
-claimed (Clock t) = None
-claimed Look = None
 claimed (Collect c n) = Some c.auction
+claimed _ = None
+
+-- The member whose response or change a call hands in.
+abbrev pub storing_member : {T : Type 0} → Call T → Option ℕ
+storing_member (Respond x) = Some x.member
+storing_member (Change x) = Some x.member
+storing_member _ = None
+
+-- A halt halts, a resume resumes, and no other call does either.
+abbrev pub halted_by : {T : Type 0} → Call T → Bool → Bool
+halted_by (Halt t) before = true
+halted_by (Resume t) before = false
+halted_by _ before = before
 
 -- A response as it was answered: the stored price, not turned, and the stored size.
 abbrev pub response_then : ResponseRequest → StoredTerms → Told
@@ -171,33 +138,21 @@ withdrawn_then member own (r ∷ rs) = cond (is_own member own r) rs (r ∷ with
 
 -- What a call that was answered with a stored price and size makes of the responses that stood.
 abbrev pub stood_after : {T : Type 0} → Call T → StoredTerms → List Told → List Told
-stood_after (Open x) t rs = rs
 stood_after (Respond x) t rs = rs ++ response_then x t ∷ []
 stood_after (Change x) t rs = changed_then x.member x.own t rs
 stood_after (Withdraw x) t rs = withdrawn_then x.member x.own rs
-stood_after (Tick c x) t rs = rs
-stood_after (Halt c) t rs = rs
-stood_after (Resume c) t rs = rs
-stood_after (Clock c) t rs = rs
-stood_after Look t rs = rs
-stood_after (Collect c n) t rs = rs
+stood_after _ t rs = rs
 
-abbrev pub stood_answered : {T : Type 0} → Call T → Option StoredTerms → List Told → List Told
-stood_answered c None rs = rs
-stood_answered c (Some t) rs = stood_after c t rs
+-- The members of accepted responses and changes, with that of this call.
+abbrev pub storing_after : {T : Type 0} → Call T → List ℕ → List ℕ
+storing_after (Respond x) ms = x.member ∷ ms
+storing_after (Change x) ms = x.member ∷ ms
+storing_after _ ms = ms
 
 -- A plain response that was priced below the floor, turned.
 abbrev pub plain_below : {T : Type 0} → Side → ℤ → Call T → Bool
-plain_below side floor (Open x) = false
 plain_below side floor (Respond x) = is_plain_kind x.kind && int_lt (turned side x.price) floor
-plain_below side floor (Change x) = false
-plain_below side floor (Withdraw x) = false
-plain_below side floor (Tick t x) = false
-plain_below side floor (Halt t) = false
-plain_below side floor (Resume t) = false
-plain_below side floor (Clock t) = false
-plain_below side floor Look = false
-plain_below side floor (Collect c n) = false
+plain_below side floor _ = false
 
 -- A price that is shown is above the turned price of one of these.
 abbrev pub above_one : Side → Option ℤ → List Told → Bool
@@ -219,151 +174,246 @@ guarantee_of f = record { kind = f.order.guarantee.kind; price = int_max f.range
 abbrev pub deadline_of : OpeningFacts → ℕ
 deadline_of f = f.time + f.interval
 
-abbrev pub facts_by : PairedOrder → Result RangePrices RangeRefusal → ℕ → ℕ → Option OpeningFacts
-facts_by o (Ok r) time interval = Some (record { order = o; range = r; time = time; interval = interval })
-facts_by o (Err e) time interval = None
+-- The story of an auction so far: how it was opened; its floor; the responses that stand, each as last stored; the members
+-- of the responses and changes that it has accepted, the last first; and, once it has ended, the cause.
+pub record Story : Type 0 where
+  pub opening : OpeningFacts
+  pub floor : ℤ
+  pub stood : List Told
+  pub storing : List ℕ
+  pub ended : Option EndCause
+
+-- A new auction's floor is that of its range; nobody has responded.
+abbrev pub new_story : OpeningFacts → Story
+new_story f = record { opening = f; floor = f.range.floor; stood = []; storing = []; ended = None }
+
+abbrev pub story_by : PairedOrder → Result RangePrices RangeRefusal → ℕ → ℕ → Option Story
+story_by o (Ok r) time interval = Some (new_story (record { order = o; range = r; time = time; interval = interval }))
+story_by o (Err e) time interval = None
+
+-- The cause for which it ended, if it has.
+abbrev pub cause_told : Option Story → Option EndCause
+cause_told None = None
+cause_told (Some s) = s.ended
+
+-- It has ended.
+abbrev pub is_over : Option Story → Bool
+is_over None = false
+is_over (Some s) = is_some s.ended
+
+-- The story of an auction that has not ended.
+abbrev pub going_on : Option Story → Option Story
+going_on None = None
+going_on (Some s) = cond (is_some s.ended) None (Some s)
+
+-- The story of an auction whose deadline a time does not reach.
+abbrev pub not_due : ℕ → Option Story → Option Story
+not_due t None = None
+not_due t (Some s) = cond (nat_le (deadline_of s.opening) t) None (Some s)
 
 -- The market's next position, where an accepted call handed in a tick.
 abbrev pub position_then : {P T : Type 0} → (P → T → P) → Bool → Option T → P → P
 position_then next accepted None p = p
 position_then next accepted (Some t) p = cond accepted (next p t) p
 
--- The auction of this number is open.
-abbrev pub is_open : {P Q : Type 0} → ℕ → RoomState P Q → Bool
-is_open n s = is_number n s.current
+abbrev pub time_or_first : Option ℕ → ℕ
+time_or_first None = 0
+time_or_first (Some t) = t
 
-module _ {P T F Q : Type 0} where
-  -- It is open before a call and not open after it.
-  abbrev pub ends_at : ℕ → Moment P T F Q → Bool
-  ends_at n m = is_open n m.before && not (is_open n m.after)
+-- The time to which a call can move a room's: that of a timed call that passes its input checks.
+abbrev pub clock_time : {T : Type 0} → Call T → ℕ
+clock_time c = cond (is_some (input_reason c)) 0 (time_or_first (given_time c))
 
-  -- It is open before a call and no longer open after the clock step.
-  abbrev pub ends_by_clock : ℕ → Moment P T F Q → Bool
-  ends_by_clock n m = is_open n m.before && not (is_open n m.stepped)
+-- What the open auction shows to everybody: its number, side, size and initiating price, not turned, those of its opening.
+abbrev pub story_view : ℕ → Story → AuctionView
+story_view n s =
+    record { number = n; side = s.opening.order.side; size = s.opening.order.size; initiating = turned s.opening.order.side s.opening.range.initiating }
 
+module _ {T F : Type 0} where
   -- An opening of this auction was accepted.
-  abbrev pub opens : ℕ → Moment P T F Q → Bool
-  opens n m = is_same n (opened_number m.answer)
+  abbrev pub opens : ℕ → Exchange T F → Bool
+  opens n x = is_same n (opened_number x.answer)
 
   -- This auction was collected by an accepted collecting.
-  abbrev pub collects : ℕ → Moment P T F Q → Bool
-  collects n m = is_collected m.answer && is_same n (claimed m.call)
-
-  -- T: the deadline is reached by the room's time after the clock step.
-  abbrev pub deadline_reached : OpeningFacts → Moment P T F Q → Bool
-  deadline_reached f m = nat_le (deadline_of f) m.stepped.time
-
-  -- A: another opening is accepted.
-  abbrev pub another_opened : Moment P T F Q → Bool
-  another_opened m = is_some (opened_number m.answer)
+  abbrev pub collects : ℕ → Exchange T F → Bool
+  collects n x = is_collected x.answer && is_same n (claimed x.call)
 
   -- An accepted tick.
-  abbrev pub ticked_at : Moment P T F Q → Bool
-  ticked_at m = is_accepted m.answer && is_some (tick_in m.call)
+  abbrev pub ticked_at : Exchange T F → Bool
+  ticked_at x = is_accepted x.answer && is_some (tick_in x.call)
+
+  -- A: another opening is accepted.
+  abbrev pub another_opened : Exchange T F → Bool
+  another_opened x = is_some (opened_number x.answer)
 
   -- H: a halt is accepted.
-  abbrev pub halt_accepted : Moment P T F Q → Bool
-  halt_accepted m = is_accepted m.answer && is_halt m.call
+  abbrev pub halt_accepted : Exchange T F → Bool
+  halt_accepted x = is_accepted x.answer && is_halt x.call
 
-  -- An accepted tick that did not end the auction.
-  abbrev pub keeps_open : ℕ → Moment P T F Q → Bool
-  keeps_open n m = is_open n m.before && (is_open n m.after && ticked_at m)
+  -- The room's time: the latest time of a timed call that passed its input checks, 0 before the first.
+  abbrev pub time_then : List (Exchange T F) → ℕ
+  time_then [] = 0
+  time_then (x ∷ past) = max (time_then past) (clock_time x.call)
 
-  -- At how many moments it ended.
-  abbrev pub times_ended : ℕ → List (Moment P T F Q) → ℕ
-  times_ended n [] = 0
-  times_ended n (m ∷ past) = cond (ends_at n m) 1 0 + times_ended n past
+  -- It is halted as the last accepted halt or resume says.
+  abbrev pub halted_then : List (Exchange T F) → Bool
+  halted_then [] = false
+  halted_then (x ∷ past) = cond (is_accepted x.answer) (halted_by x.call (halted_then past)) (halted_then past)
 
-  -- It was collected at some moment.
-  abbrev pub was_collected : ℕ → List (Moment P T F Q) → Bool
+  -- How many openings were accepted: auctions are counted from 1, so it is the number of the last one.
+  abbrev pub openings : List (Exchange T F) → ℕ
+  openings [] = 0
+  openings (x ∷ past) = cond (another_opened x) 1 0 + openings past
+
+  -- It was collected by some exchange.
+  abbrev pub was_collected : ℕ → List (Exchange T F) → Bool
   was_collected n [] = false
-  was_collected n (m ∷ past) = collects n m || was_collected n past
+  was_collected n (x ∷ past) = collects n x || was_collected n past
 
-  -- The responses that stood in it: those that were accepted while it was open after the clock step, also in the call that
-  -- ended it, and that were not withdrawn, each as last stored.
-  abbrev pub stood_in : ℕ → List (Moment P T F Q) → List Told
-  stood_in n [] = []
-  stood_in n (m ∷ past) = cond (is_open n m.stepped) (stood_answered m.call (told_terms m.answer) (stood_in n past)) (stood_in n past)
+  -- E: a plain response priced below the floor is accepted.
+  abbrev pub plain_response_below_floor : Story → Exchange T F → Bool
+  plain_response_below_floor s x = is_some (told_terms x.answer) && plain_below s.opening.order.side s.floor x.call
 
-  module _ (w : World P T F Q) (p : P) (q : Q) where
-    -- The market's position: accepted ticks move it, from where the room was made on.
-    abbrev pub market_at : List (Moment P T F Q) → P
-    market_at [] = p
-    market_at (m ∷ past) = position_then w.market.next (is_accepted m.answer) (tick_in m.call) (market_at past)
+module _ {P T F Q : Type 0} (w : World P T F Q) (p : P) (q : Q) where
+  -- The market's position: accepted ticks move it, from where the room was made on.
+  abbrev pub market_at : List (Exchange T F) → P
+  market_at [] = p
+  market_at (x ∷ past) = position_then w.market.next (is_accepted x.answer) (tick_in x.call) (market_at past)
 
-    -- The source's position: accepted openings draw, and nothing else does.
-    abbrev pub source_at : List (Moment P T F Q) → Q
-    source_at [] = q
-    source_at (m ∷ past) = cond (is_some (opened_number m.answer)) (w.source.next (source_at past)) (source_at past)
+  -- The source's position: accepted openings draw, and nothing else does.
+  abbrev pub source_at : List (Exchange T F) → Q
+  source_at [] = q
+  source_at (x ∷ past) = cond (another_opened x) (w.source.next (source_at past)) (source_at past)
 
-    -- What the market now shows to an order of a side: floor and contra price.
-    abbrev pub shown_to : Side → List (Moment P T F Q) → TurnedQuote
-    shown_to side past = turned_quote side (w.market.shows (market_at past))
+  -- What the market now shows to an order of a side: floor and contra price.
+  abbrev pub shown_to : Side → List (Exchange T F) → TurnedQuote
+  shown_to side past = turned_quote side (w.market.shows (market_at past))
 
-    abbrev pub facts_then : Option PairedOrder → List (Moment P T F Q) → ℕ → Option OpeningFacts
-    facts_then None past time = None
-    facts_then (Some o) past time = facts_by o (permitted o.side o.limit (w.market.shows (market_at past))) time (w.source.draws (source_at past))
+  -- T: the deadline is reached by the room's time.
+  abbrev pub deadline_reached : Story → List (Exchange T F) → Bool
+  deadline_reached s past = nat_le (deadline_of s.opening) (time_then past)
 
-    -- The accepted opening of an auction.
-    abbrev pub opening_of : ℕ → List (Moment P T F Q) → Option OpeningFacts
-    opening_of n [] = None
-    opening_of n (m ∷ past) = cond (opens n m) (facts_then (order_in m.call) past m.after.time) (opening_of n past)
+  -- What is now shown to the order, at an accepted tick.
+  abbrev pub shown_now : Story → List (Exchange T F) → TurnedQuote
+  shown_now s past = shown_to s.opening.order.side past
 
-    -- Its floor: what the market showed at the opening, or at the last accepted tick since then that showed a price there
-    -- and did not end the auction.
-    abbrev pub floor_of : ℕ → OpeningFacts → List (Moment P T F Q) → ℤ
-    floor_of n f [] = f.range.floor
-    floor_of n f (m ∷ past) = cond (keeps_open n m) (shown_or (shown_to f.order.side (m ∷ past)).floor (floor_of n f past)) (floor_of n f past)
-
+  module _ (past : List (Exchange T F)) (x : Exchange T F) (s : Story) where
     -- B: at an accepted tick, the floor now shown is above the initiating price.
-    abbrev pub floor_above_initiating : OpeningFacts → List (Moment P T F Q) → Moment P T F Q → Bool
-    floor_above_initiating f past m = ticked_at m && is_above (shown_to f.order.side (m ∷ past)).floor f.range.initiating
+    abbrev pub floor_above_initiating : Bool
+    floor_above_initiating = ticked_at x && is_above (shown_now s (x ∷ past)).floor s.opening.range.initiating
 
-    -- C: it is above a response that stood.
-    abbrev pub floor_above_response : ℕ → OpeningFacts → List (Moment P T F Q) → Moment P T F Q → Bool
-    floor_above_response n f past m = ticked_at m && above_one f.order.side (shown_to f.order.side (m ∷ past)).floor (stood_in n past)
+    -- C: it is above a response that stands.
+    abbrev pub floor_above_response : Bool
+    floor_above_response = ticked_at x && above_one s.opening.order.side (shown_now s (x ∷ past)).floor s.stood
 
     -- D: it is above a single stop.
-    abbrev pub floor_above_stop : OpeningFacts → List (Moment P T F Q) → Moment P T F Q → Bool
-    floor_above_stop f past m = ticked_at m && stop_passed (guarantee_of f).kind (shown_to f.order.side (m ∷ past)).floor (guarantee_of f).price
+    abbrev pub floor_above_stop : Bool
+    floor_above_stop = ticked_at x && stop_passed (guarantee_of s.opening).kind (shown_now s (x ∷ past)).floor (guarantee_of s.opening).price
 
     -- F: at an accepted tick, the contra price now shown is below the guarantee.
-    abbrev pub contra_below_guarantee : OpeningFacts → List (Moment P T F Q) → Moment P T F Q → Bool
-    contra_below_guarantee f past m = ticked_at m && is_below (shown_to f.order.side (m ∷ past)).contra (guarantee_of f).price
+    abbrev pub contra_below_guarantee : Bool
+    contra_below_guarantee = ticked_at x && is_below (shown_now s (x ∷ past)).contra (guarantee_of s.opening).price
 
-    -- E: a plain response priced below the floor is accepted.
-    abbrev pub plain_response_below_floor : ℕ → OpeningFacts → List (Moment P T F Q) → Moment P T F Q → Bool
-    plain_response_below_floor n f past m = is_some (told_terms m.answer) && plain_below f.order.side (floor_of n f past) m.call
-
-    -- The first cause that a call brings to an auction: T comes first, since every timed call begins with the clock step;
-    -- at a tick B, C, D and F are tried in this order; A, E and H are of other calls.
-    abbrev pub first_cause : ℕ → OpeningFacts → List (Moment P T F Q) → Moment P T F Q → Option EndCause
-    first_cause n f past m =
-        first_of
-        ((deadline_reached f m, Deadline)
-        ∷ ((another_opened m, NextAuction)
-        ∷ ((floor_above_initiating f past m, FloorAboveInitiating)
-        ∷ ((floor_above_response n f past m, FloorAboveResponse)
-        ∷ ((floor_above_stop f past m, FloorAboveStop)
-        ∷ ((contra_below_guarantee f past m, ContraBelowGuarantee)
-        ∷ ((plain_response_below_floor n f past m, PlainBelowFloor)
-        ∷ ((halt_accepted m, Halted)
+    -- The first cause that a call brings to an open auction: T comes first, since every timed call begins with the clock
+    -- step; at a tick B, C, D and F are tried in this order; A, E and H are of other calls.
+    abbrev pub first_cause : Option EndCause
+    first_cause =
+        first_that_holds
+        ((deadline_reached s (x ∷ past), Deadline)
+        ∷ ((another_opened x, NextAuction)
+        ∷ ((floor_above_initiating, FloorAboveInitiating)
+        ∷ ((floor_above_response, FloorAboveResponse)
+        ∷ ((floor_above_stop, FloorAboveStop)
+        ∷ ((contra_below_guarantee, ContraBelowGuarantee)
+        ∷ ((plain_response_below_floor s x, PlainBelowFloor)
+        ∷ ((halt_accepted x, Halted)
         ∷ []))))))))
 
-    abbrev pub cause_by : Option OpeningFacts → ℕ → List (Moment P T F Q) → Moment P T F Q → Option EndCause
-    cause_by None n past m = None
-    cause_by (Some f) n past m = first_cause n f past m
+    -- The floor after a call: what an accepted tick that did not end the auction shows there, if it shows a price.
+    abbrev pub floor_after : ℤ
+    floor_after = cond (ticked_at x && not (is_some first_cause)) (shown_or (shown_now s (x ∷ past)).floor s.floor) s.floor
 
-    -- The first cause that a call brings to the open auction of this number.
-    abbrev pub cause_at : ℕ → List (Moment P T F Q) → Moment P T F Q → Option EndCause
-    cause_at n past m = cause_by (opening_of n past) n past m
+    -- The call finds the auction open after its clock step, and was told a stored price and size.
+    abbrev pub stores : Bool
+    stores = is_some (told_terms x.answer) && not (deadline_reached s (x ∷ past))
 
-    -- The cause at the moment at which an auction ended.
-    abbrev pub cause_of : ℕ → List (Moment P T F Q) → Option EndCause
-    cause_of n [] = None
-    cause_of n (m ∷ past) = cond (ends_at n m) (cause_at n past m) (cause_of n past)
+    abbrev pub stood_told : Option StoredTerms → List Told
+    stood_told None = s.stood
+    stood_told (Some t) = stood_after x.call t s.stood
 
--- Of each moment of a run, with the history before it.
+    -- What a call makes of an open auction. A response that ends it still stands in it; the floor of an ending tick does not
+    -- count.
+    abbrev pub lived : Story
+    lived = record {
+      opening = s.opening;
+      floor = floor_after;
+      stood = cond (deadline_reached s (x ∷ past)) s.stood (stood_told (told_terms x.answer));
+      storing = cond stores (storing_after x.call s.storing) s.storing;
+      ended = first_cause;
+    }
+
+    -- An auction that has ended stays as it was.
+    abbrev pub story_after : Story
+    story_after = cond (is_some s.ended) s lived
+
+  abbrev pub story_opened : Option PairedOrder → List (Exchange T F) → ℕ → Option Story
+  story_opened None past time = None
+  story_opened (Some o) past time = story_by o (permitted o.side o.limit (w.market.shows (market_at past))) time (w.source.draws (source_at past))
+
+  -- The story of the auction of this number, from its accepted opening on.
+  abbrev pub story_of : ℕ → List (Exchange T F) → Option Story
+  story_of n [] = None
+  story_of n (x ∷ past) = cond (opens n x) (story_opened (order_in x.call) past (time_then (x ∷ past))) (option_map (story_after past x) (story_of n past))
+
+  -- The cause that a call brings to an auction that was open,
+  abbrev pub cause_by : Option Story → List (Exchange T F) → Exchange T F → Option EndCause
+  cause_by None past x = None
+  cause_by (Some s) past x = first_cause past x s
+
+  abbrev pub cause_at : ℕ → List (Exchange T F) → Exchange T F → Option EndCause
+  cause_at n past x = cause_by (story_of n past) past x
+
+  -- and the one for which it ended.
+  abbrev pub cause_of : ℕ → List (Exchange T F) → Option EndCause
+  cause_of n past = cause_told (story_of n past)
+
+  -- It has ended.
+  abbrev pub has_ended : ℕ → List (Exchange T F) → Bool
+  has_ended n past = is_over (story_of n past)
+
+  -- The auction that is open, if one is: the last one opened, if it has not ended.
+  abbrev pub open_story : List (Exchange T F) → Option Story
+  open_story past = going_on (story_of (openings past) past)
+
+  -- The auction waits to be collected: it has ended and was not collected.
+  abbrev pub waits_then : ℕ → List (Exchange T F) → Bool
+  waits_then n past = has_ended n past && not (was_collected n past)
+
+  -- How many of the auctions up to a number wait.
+  abbrev pub waiting_up_to : ℕ → List (Exchange T F) → ℕ
+  waiting_up_to zero past = 0
+  waiting_up_to (suc n) past = cond (waits_then (suc n) past) 1 0 + waiting_up_to n past
+
+  abbrev pub waiting_then : List (Exchange T F) → ℕ
+  waiting_then past = waiting_up_to (openings past) past
+
+  -- What a look would tell.
+  abbrev pub view_then : List (Exchange T F) → View
+  view_then past = record {
+    time = time_then past;
+    halted = halted_then past;
+    waiting = waiting_then past;
+    auction = option_map (story_view (openings past)) (open_story past);
+  }
+
+-- The exchanges of moments.
+abbrev pub exchange_of : {P T F Q : Type 0} → Moment P T F Q → Exchange T F
+exchange_of m = record { call = m.call; answer = m.answer }
+
+abbrev pub history_of : {P T F Q : Type 0} → List (Moment P T F Q) → List (Exchange T F)
+history_of ms = map exchange_of ms
+
+-- Of each moment of a run, with the moments before it.
 abbrev pub Throughout : {M : Type 0} → (List M → M → Type 0) → List M → List M → Type 0
 Throughout L past [] = Unit {0}
 Throughout L past (m ∷ ms) = L past m × Throughout L (m ∷ past) ms

@@ -5,6 +5,7 @@ use Rattle.room.specs.World.{World}
 use Rattle.session.specs.declared.calls.Call.{Call}
 use Rattle.session.specs.Ending.{EndedWithinASecond, BusinessAfterTheClockStep, NotByTimeTooSoon, EndedNotVanished, EndedForItsCauses, AuctionsEndAsRuled}
 use Rattle.session.specs.History.{Throughout}
+use Rattle.session.specs.Looking.{LooksTellTheHistory, LooksTellTheHistoryInRuns}
 use Rattle.session.specs.Learning.{AllAlike, opens_here, ends_here, seen_by, MemberSeesTheSame}
 use Rattle.session.specs.Runs.{Moment, run}
 use Rattle.session.specs.SessionLearning.{ShownTheSame, MemberSeesTheSameInSessions, opens_if_made, ends_if_made}
@@ -14,6 +15,7 @@ use Rattle.session.specs.Sharing.{CollectedLawfully, ContractsAreSharedLawfully}
 pub record RunLaws {P T F Q : Type 0} (w : World P T F Q) : Type 0 where
   pub learning : MemberSeesTheSame w
   pub session_learning : MemberSeesTheSameInSessions w
+  pub looks : LooksTellTheHistoryInRuns w
   pub ending : AuctionsEndAsRuled w
   pub sharing : ContractsAreSharedLawfully w
 
@@ -25,6 +27,8 @@ pub record LawsOfRun {P T F Q : Type 0} (w : World P T F Q) (number : ℕ) (p : 
       → map opens_here (run w number p q cs) ≡ map opens_here (run w number p q ds)
       → map ends_here (run w number p q cs) ≡ map ends_here (run w number p q ds)
       → map (seen_by u) (run w number p q cs) ≡ map (seen_by u) (run w number p q ds)
+  -- What looks tell.
+  pub looks : Throughout (LooksTellTheHistory w p q) [] (run w number p q cs)
   -- When an auction ends.
   pub within_a_second : Throughout (EndedWithinASecond w number p q) [] (run w number p q cs)
   pub after_the_clock_step : Throughout (λ past. BusinessAfterTheClockStep w number p q) [] (run w number p q cs)

@@ -14,7 +14,8 @@ use Rattle.room.specs.State.{OpenAuction}
 use Rattle.room.specs.World.{World}
 use Rattle.session.specs.declared.calls.Call.{Call}
 use Rattle.session.specs.declared.calls.Call.TheVariants.{Open, Respond, Change, Withdraw, Tick, Halt, Resume, Clock, Look, Collect}
-use Rattle.session.specs.History.{opened_number, ends_at}
+use Rattle.session.specs.History.{opened_number}
+use Rattle.session.specs.Moments.{ends_at}
 use Rattle.session.specs.Runs.{Answer, Moment, run}
 
 -- A guarantee is hidden whole, its kind and its price; what stands in its place says nothing.

@@ -1,8 +1,12 @@
 -- Any list of calls on a room, and the laws over whole runs.
 pub mod Runs
+pub mod Inputs
 pub mod History
+pub mod Moments
 pub mod Learning
 pub mod Ending
+pub mod Looking
+pub mod Reasons
 pub mod Sharing
 pub mod Sessions
 pub mod SessionLearning

@@ -13,7 +13,7 @@ use Rattle.room.specs.declared.answers.Collection.{Collection}
 use Rattle.room.specs.World.{World}
 use Rattle.session.specs.declared.calls.Call.{Call}
 use Rattle.session.specs.declared.calls.Call.TheVariants.{Collect}
-use Rattle.session.specs.History.{OpeningFacts, opening_of, guarantee_of, floor_of, stood_in, Throughout}
+use Rattle.session.specs.History.{Story, story_of, guarantee_of, history_of, Throughout}
 use Rattle.session.specs.Runs.{Collected, Moment, run}
 
 -- The rows keep the laws of a fill list, of responses of which just this is told, and those of what the contra may take,
@@ -30,9 +30,9 @@ pub record ToldFillLaws (side : Side) (size : ℕ) (guarantee : Guarantee) (floo
 -- guarantee, as it was stored, lets it take; no other shares keep these laws; and the collecting wrote as many rows as it
 -- told.
 pub record SharedLawfully {P T F Q : Type 0} (w : World P T F Q) (p : P) (q : Q) (n : ℕ) (past : List (Moment P T F Q)) (k : Collection) (rows : List FillRow) : Type 0 where
-  pub opened_with : OpeningFacts
-  pub was_opened : opening_of w p q n past ≡ Some opened_with
-  pub laws : ToldFillLaws opened_with.order.side opened_with.order.size (guarantee_of opened_with) (floor_of w p q n opened_with past) opened_with.range.initiating (stood_in n past) rows
+  pub story : Story
+  pub is_its_story : story_of w p q n (history_of past) ≡ Some story
+  pub laws : ToldFillLaws story.opening.order.side story.opening.order.size (guarantee_of story.opening) story.floor story.opening.range.initiating story.stood rows
   pub as_many_as_told : length rows ≡ k.count
 
 abbrev pub CollectedLawfully : {P T F Q : Type 0} → World P T F Q → P → Q → List (Moment P T F Q) → Moment P T F Q → Type 0

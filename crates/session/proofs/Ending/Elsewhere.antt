@@ -11,7 +11,8 @@ use Rattle.room.specs.State.{OpenAuction, EndedAuction, RoomState, at_time, at_p
 use Rattle.room.specs.Ticks.{tick_cause, ticked_for, ticked, at_floor, floor_now}
 use Rattle.room.specs.World.{World}
 use Rattle.session.specs.declared.calls.Call.{Call}
-use Rattle.session.specs.History.{is_open, opens, collects, opened_number, is_collected, is_same, claimed, plain_below}
+use Rattle.session.specs.History.{opens, collects, opened_number, is_collected, is_same, claimed, plain_below, exchange_of}
+use Rattle.session.specs.Moments.{is_open}
 use Rattle.session.specs.Runs.{Answer, Opened, Moment}
 use Rattle.session.proofs.Ending.Lives.{Stepped, kept, expired}
 use Rattle.session.proofs.Ending.Shapes.{Did, idle, opened, stored, ticks, halts, collected, OpenedHere, CollectedHere, opened_or_not, collected_or_not}
@@ -72,8 +73,8 @@ module _ {P Q : Type 0} where
 
 module _ {P T F Q : Type 0} (w : World P T F Q) (n : ℕ) (m : Moment P T F Q) where
   -- a call that does not open or collect this auction, after its clock step
-  pub did_elsewhere : Did w m → is_open n m.stepped ≡ false → opens n m ≡ false → collects n m ≡ false → Elsewhere n m.stepped m.after
-  did_elsewhere (idle b e k) h o c = subst (Elsewhere n m.stepped) (sym e) (same_elsewhere n m.stepped (with_halted b m.stepped) h refl refl)
+  pub did_elsewhere : Did w m → is_open n m.stepped ≡ false → opens n (exchange_of m) ≡ false → collects n (exchange_of m) ≡ false → Elsewhere n m.stepped m.after
+  did_elsewhere (idle b i e k) h o c = subst (Elsewhere n m.stepped) (sym e) (same_elsewhere n m.stepped (with_halted b m.stepped) h refl refl)
   did_elsewhere (opened d) h o c =
       let other : eqb (m.stepped.opened + 1) n ≡ false = sym (ap (λ (y : Answer F). is_same n (opened_number y)) d.answer_is) ∙ o in
       subst (Elsewhere n m.stepped) (sym d.after_is) (record {
@@ -82,9 +83,9 @@ module _ {P T F Q : Type 0} (w : World P T F Q) (n : ℕ) (m : Moment P T F Q) w
         still_once = once_closed NextAuction n m.stepped.current m.stepped.waiting h;
         opened_up = omega arith;
       })
-  did_elsewhere (stored a b t e f g same told sound k) h o c =
-      let other : eqb b.number n ≡ false = ap (λ i. eqb i n) same.same_number ∙ sym (ap (is_number n) e) ∙ h in
-      subst (Elsewhere n m.stepped) (sym k) (responded_elsewhere n (plain_below a.values.order.side a.values.floor m.call) b m.stepped h other)
+  did_elsewhere (stored d) h o c =
+      let other : eqb d.now.number n ≡ false = ap (λ i. eqb i n) d.same.same_number ∙ sym (ap (is_number n) d.was_open) ∙ h in
+      subst (Elsewhere n m.stepped) (sym d.after_is) (responded_elsewhere n (plain_below d.was.values.order.side d.was.values.floor m.call) d.now m.stepped h other)
   did_elsewhere (ticks t x e a f) h o c =
       let at = at_position (w.market.next m.stepped.position x) m.stepped in
       subst (Elsewhere n m.stepped) (sym f) (both_elsewhere n m.stepped at _ (same_elsewhere n m.stepped at h refl refl) (ticked_elsewhere n m.stepped.current (w.market.shows (w.market.next m.stepped.position x)) at refl h))
@@ -103,11 +104,11 @@ module _ {P T F Q : Type 0} (w : World P T F Q) (n : ℕ) (m : Moment P T F Q) w
   number_differs : (a : Answer F) (k : ℕ) → a ≡ Opened (record { room = m.stepped.number; auction = k + 1 }) → n ≤ k → is_same n (opened_number a) ≡ false
   number_differs a k e h = ap (λ (y : Answer F). is_same n (opened_number y)) e ∙ (let less = h in grind (arith, tests))
 
-  opened_before : OpenedHere w m ⊎ (opened_number m.answer ≡ None) → n ≤ m.stepped.opened → opens n m ≡ false
+  opened_before : OpenedHere w m ⊎ (opened_number m.answer ≡ None) → n ≤ m.stepped.opened → opens n (exchange_of m) ≡ false
   opened_before (inl d) h = number_differs m.answer m.stepped.opened d.answer_is h
   opened_before (inr none) h = ap (is_same n) none
 
-  pub not_opened : Did w m → n ≤ m.stepped.opened → opens n m ≡ false
+  pub not_opened : Did w m → n ≤ m.stepped.opened → opens n (exchange_of m) ≡ false
   not_opened did h = opened_before (opened_or_not w m did) h
 
   -- an auction that does not wait is not collected
@@ -117,11 +118,11 @@ module _ {P T F Q : Type 0} (w : World P T F Q) (n : ℕ) (m : Moment P T F Q) w
       let same : k ≡ n = grind (arith, tests) in
       none_some x (sym g ∙ sym (ap (λ i. numbered i es) same) ∙ f)
 
-  none_waits : CollectedHere w m ⊎ (is_collected m.answer ≡ false) → numbered n m.stepped.waiting ≡ None → collects n m ≡ false
+  none_waits : CollectedHere w m ⊎ (is_collected m.answer ≡ false) → numbered n m.stepped.waiting ≡ None → collects n (exchange_of m) ≡ false
   none_waits (inl d) h =
       ap (λ (y : Answer F). is_collected y && is_same n (claimed m.call)) d.answer_is ∙ ap (λ (y : Call T). is_same n (claimed y)) d.call_is
       ∙ claim_differs m.stepped.waiting d.claim.auction d.auction (eqb d.claim.auction n) refl d.waited h
   none_waits (inr none) h = ap (λ (b : Bool). b && is_same n (claimed m.call)) none
 
-  pub not_collected : Did w m → numbered n m.stepped.waiting ≡ None → collects n m ≡ false
+  pub not_collected : Did w m → numbered n m.stepped.waiting ≡ None → collects n (exchange_of m) ≡ false
   not_collected did h = none_waits (collected_or_not w m did) h

@@ -3,10 +3,10 @@ use Rattle.std.proofs.Common.{◌≡◌, ◌⊎◌, inl, inr, ℕ, ◌+◌, ◌<
 use Rattle.std.proofs.lemmas.Bool.{and_from, and_parts, and_right, not-true}
 use Rattle.std.proofs.lemmas.Bool.Decides.{nat_tests as tests}
 use Rattle.interval.specs.Source.{WithinLimits}
+use Rattle.allocation.specs.declared.cause.EndCause.{EndCause}
 use Rattle.allocation.specs.declared.cause.EndCause.TheVariants.{Deadline, Halt as Halted}
 use Rattle.room.specs.declared.answers.ClaimNumbers.{ClaimNumbers}
 use Rattle.room.specs.declared.answers.Collection.{Collection}
-use Rattle.room.specs.declared.refusal.Refusal.{Refusal}
 use Rattle.room.specs.Checks.{open_checks, respond_checks, change_checks, withdraw_checks, time_checks, collect_checks}
 use Rattle.room.specs.Clock.{clocked, due, timed}
 use Rattle.room.specs.Collecting.{fill_rows, waiting_now, written}
@@ -18,14 +18,15 @@ use Rattle.room.specs.Ticks.{ticking}
 use Rattle.room.specs.World.{World, Terms}
 use Rattle.session.specs.declared.calls.Call.{Call}
 use Rattle.session.specs.declared.calls.Call.TheVariants.{Open, Respond, Change, Withdraw, Tick, Halt, Resume, Clock, Look, Collect}
-use Rattle.session.specs.Ending.{TimedAt, openings, CollectedWhenDue, told_cause, EndedWithinASecond, NotByTimeTooSoon, BusinessAfterTheClockStep, EndedNotVanished, EndedForItsCauses, AuctionsEndAsRuled}
-use Rattle.session.specs.History.{OpeningFacts, deadline_of, is_open, ends_at, opened_number, is_collected, times_ended, was_collected, opening_of, cause_at, cause_of, Throughout}
+use Rattle.session.specs.Ending.{TimedAt, CollectedWhenDue, told_cause, EndedWithinASecond, NotByTimeTooSoon, BusinessAfterTheClockStep, EndedNotVanished, EndedForItsCauses, AuctionsEndAsRuled}
+use Rattle.session.specs.History.{Story, deadline_of, is_over, clock_time, time_or_first, opened_number, is_collected, time_then, openings, was_collected, waits_then, story_of, cause_at, cause_of, exchange_of, history_of, Throughout}
+use Rattle.session.specs.Moments.{is_open, ends_at, times_ended}
 use Rattle.session.specs.Runs.{Answer, Opened, Stored, Accepted, Collected, Moment, answered, answering, clock_stepped, given_time, input_refusal, moment, step, run_from}
 use Rattle.session.proofs.Ending.Counted.{Counted, same, more, fewer}
 use Rattle.session.proofs.Ending.Elsewhere.{stepped_elsewhere}
-use Rattle.session.proofs.Ending.Held.{Holds, holds_new, holds_after, clock_of, tally, earlier, fate_of, not_ending}
+use Rattle.session.proofs.Ending.Held.{Holds, holds_new, holds_after, clock_of, time_stepped, tally, earlier, fate_of, not_ending}
 use Rattle.session.proofs.Ending.Fates.{Fate, stays, ends, expired_ends}
-use Rattle.session.proofs.Ending.Lives.{Stepped, kept, expired, unstepped, clocked_time, Alive, Over, Life, unborn, alive, waiting, gone, ended_kept}
+use Rattle.session.proofs.Ending.Lives.{Stepped, kept, expired, unstepped, stepped_time, stepped_opened, Alive, Over, over_cause, Life, unborn, alive, waiting, gone, ended_kept}
 use Rattle.session.proofs.Ending.Shapes.{OpenedHere, CollectedHere, opened_or_not, collected_or_not, did}
 use Rattle.room.proofs.Tests.{true_false, none_some}
 
@@ -86,88 +87,92 @@ module _ {P T F Q : Type 0} (w : World P T F Q) (drawn : WithinLimits w.source) 
     clock : Stepped s m.stepped
     clock = clock_of w drawn number p q s c h.none_due
 
-    next : Holds w drawn number p q (m ∷ past) m.after
-    next = holds_after w drawn number p q past s c h
+    reaches_time : m.stepped.time ≡ max s.time (clock_time c)
+    reaches_time = stepped_time F c s
+
+    -- the history's time, after the clock step
+    pub time_now : m.stepped.time ≡ time_then (history_of (m ∷ past))
+    time_now = time_stepped w drawn number p q past m h clock reaches_time (did w s c)
 
     -- Within a second.
     reaches : (t : ℕ) → TimedAt t m → m.stepped.time ≡ max s.time t
-    reaches t k = ap (λ (e : Option (Refusal F)). (clock_stepped e (given_time c) s).time) k.1 ∙ ap (λ e. (clock_stepped {R = Refusal F} None e s).time) k.0 ∙ clocked_time s t
+    reaches t k = reaches_time ∙ ap (λ (o : Option ℕ). max s.time (cond (is_some o) 0 (time_or_first (given_time c)))) k.1 ∙ ap (λ o. max s.time (time_or_first o)) k.0
 
-    same_facts : (n : ℕ) (a : OpenAuction) (live : Alive w p q n past a) (f : OpeningFacts) → opening_of w p q n past ≡ Some f → live.facts ≡ f
-    same_facts n a live f e = let g = live.opened_as in cc
+    same_story : (n : ℕ) (a : OpenAuction) (live : Alive w p q n past a) (f : Story) → story_of w p q n (history_of past) ≡ Some f → live.story ≡ f
+    same_story n a live f e = let g = live.is_its_story in cc
 
-    second_alive : (n t : ℕ) (f : OpeningFacts) (a : OpenAuction) → TimedAt t m → f.time + 1000 ≤ t → s.current ≡ Some a → eqb a.number n ≡ true → numbered n s.waiting ≡ None → n ≤ s.opened
-        → (live : Alive w p q n past a) → live.facts ≡ f → Stepped s m.stepped → (is_open n m.stepped ≡ false) × (times_ended n (m ∷ past) ≡ 1)
+    second_alive : (n t : ℕ) (f : Story) (a : OpenAuction) → TimedAt t m → f.opening.time + 1000 ≤ t → s.current ≡ Some a → eqb a.number n ≡ true → numbered n s.waiting ≡ None → n ≤ s.opened
+        → (live : Alive w p q n past a) → live.story ≡ f → Stepped s m.stepped → (is_open n m.stepped ≡ false) × (times_ended n (m ∷ past) ≡ 1)
     second_alive n t f a k l e i z o live g (kept t' u d) =
         let late : leb a.deadline t' ≡ false = sym (ap (due t') e) ∙ d in
         let then : t' ≡ max s.time t = sym (ap (λ (v : RoomState P Q). v.time) u) ∙ reaches t k in
-        let at : a.deadline ≡ f.time + f.interval = live.deadline_is ∙ ap deadline_of g in
-        let most : f.interval ≤ 1000 = subst (λ (v : OpeningFacts). v.interval ≤ 1000) g live.at_most in
+        let at : a.deadline ≡ f.opening.time + f.opening.interval = live.matches.deadline_is ∙ ap (λ (v : Story). deadline_of v.opening) g in
+        let most : f.opening.interval ≤ 1000 = subst (λ (v : Story). v.opening.interval ≤ 1000) g live.at_most in
         let soon : t' < a.deadline = grind (arith, tests) in
         absurd (omega arith)
     second_alive n t f a k l e i z o live g (expired t' b x y u) =
         let is : b ≡ a = cc in
-        let over = expired_ends w p q n past m a live (did w s c) t' e i z (earlier w drawn number p q past m h clock (did w s c) n o) (subst (λ (v : OpenAuction). leb v.deadline t' ≡ true) is y) u in
+        let over = expired_ends w p q n past m time_now a live (did w s c) t' e i z (earlier w drawn number p q past m h clock reaches_time (did w s c) n o) (subst (λ (v : OpenAuction). leb v.deadline t' ≡ true) is y) u in
         (ap (λ (v : RoomState P Q). is_open n v) u, over.over.ended_once)
 
     second_closed : (n : ℕ) → is_open n s ≡ false → times_ended n past ≡ 1 → (is_open n m.stepped ≡ false) × (times_ended n (m ∷ past) ≡ 1)
-    second_closed n k e = ((stepped_elsewhere n s m.stepped clock k).still_closed, ended_kept w p q n past m (not_ending w drawn number p q past m h clock (did w s c) n k) ∙ e)
+    second_closed n k e = ((stepped_elsewhere n s m.stepped clock k).still_closed, ended_kept w p q n past m (not_ending w drawn number p q past m h clock reaches_time (did w s c) n k) ∙ e)
 
-    second_by : (n t : ℕ) (f : OpeningFacts) → opening_of w p q n past ≡ Some f → TimedAt t m → f.time + 1000 ≤ t → Life w p q n past s → (is_open n m.stepped ≡ false) × (times_ended n (m ∷ past) ≡ 1)
-    second_by n t f e k l (unborn o x v te wc up fl st) = none_some f (sym o ∙ e)
-    second_by n t f e k l (alive a x i z o live) = second_alive n t f a k l x i z o live (same_facts n a live f e) clock
+    second_by : (n t : ℕ) (f : Story) → story_of w p q n (history_of past) ≡ Some f → TimedAt t m → f.opening.time + 1000 ≤ t → Life w p q n past s → (is_open n m.stepped ≡ false) × (times_ended n (m ∷ past) ≡ 1)
+    second_by n t f e k l (unborn o x v te wc up) = none_some f (sym o ∙ e)
+    second_by n t f e k l (alive a x i z o live) = second_alive n t f a k l x i z o live (same_story n a live f e) clock
     second_by n t f e k l (waiting a z once x o v) = second_closed n x v.ended_once
-    second_by n t f e k l (gone z x o te wc) = second_closed n x te
+    second_by n t f e k l (gone z x o g) = second_closed n x g.ended_once
 
     within_a_second : EndedWithinASecond w number p q past m
     within_a_second n t f e k l = second_by n t f e k l (h.lives n)
 
     -- Not by time too soon.
     soon_alive : (n : ℕ) (a : OpenAuction) → s.current ≡ Some a → is_open n s ≡ true → is_open n m.stepped ≡ false → Alive w p q n past a → Stepped s m.stepped
-        → (f : OpeningFacts) × (opening_of w p q n past ≡ Some f) × (f.time + 100 ≤ m.stepped.time)
+        → (f : Story) × (story_of w p q n (history_of past) ≡ Some f) × (f.opening.time + 100 ≤ time_then (history_of (m ∷ past)))
     soon_alive n a e k x live (kept t u d) = true_false (sym k ∙ sym (ap (λ (v : RoomState P Q). is_open n v) u) ∙ x)
     soon_alive n a e k x live (expired t b y l u) =
         let is : b ≡ a = cc in
         let reached : leb a.deadline t ≡ true = subst (λ (v : OpenAuction). leb v.deadline t ≡ true) is l in
-        let at : m.stepped.time ≡ t = ap (λ (v : RoomState P Q). v.time) u in
-        let deadline : a.deadline ≡ live.facts.time + live.facts.interval = live.deadline_is in
+        let at : time_then (history_of (m ∷ past)) ≡ t = sym time_now ∙ ap (λ (v : RoomState P Q). v.time) u in
+        let deadline : a.deadline ≡ live.story.opening.time + live.story.opening.interval = live.matches.deadline_is in
         let least = live.at_least in
-        (live.facts, live.opened_as, (let late : a.deadline ≤ t = grind (arith, tests) in omega arith))
+        (live.story, live.is_its_story, (let late : a.deadline ≤ t = grind (arith, tests) in omega arith))
 
-    soon_by : (n : ℕ) → is_open n s ≡ true → is_open n m.stepped ≡ false → Life w p q n past s → (f : OpeningFacts) × (opening_of w p q n past ≡ Some f) × (f.time + 100 ≤ m.stepped.time)
-    soon_by n k x (unborn o y v te wc up fl st) = true_false (sym k ∙ y)
+    soon_by : (n : ℕ) → is_open n s ≡ true → is_open n m.stepped ≡ false → Life w p q n past s → (f : Story) × (story_of w p q n (history_of past) ≡ Some f) × (f.opening.time + 100 ≤ time_then (history_of (m ∷ past)))
+    soon_by n k x (unborn o y v te wc up) = true_false (sym k ∙ y)
     soon_by n k x (alive a e i z o live) = soon_alive n a e k x live clock
     soon_by n k x (waiting a z once y o v) = true_false (sym k ∙ y)
-    soon_by n k x (gone z y o te wc) = true_false (sym k ∙ y)
+    soon_by n k x (gone z y o g) = true_false (sym k ∙ y)
 
     not_too_soon : NotByTimeTooSoon w number p q past m
     not_too_soon n e = let shut = and_parts (is_open n s) _ e in soon_by n shut.0 (not-true (is_open n m.stepped) shut.1) (h.lives n)
 
-    -- Ended, not vanished.
-    waits_by : (n : ℕ) (v : RoomState P Q) (ms : List (Moment P T F Q)) → Life w p q n ms v → (not (is_open n v) && is_some (numbered n v.waiting)) ≡ (ltb 0 (times_ended n ms) && not (was_collected n ms))
-    waits_by n v ms (unborn o x z te wc up fl st) =
-        and_right (not (is_open n v)) _ (ap is_some z) ∙ sym (ap (λ k. ltb 0 k && not (was_collected n ms)) te)
-    waits_by n v ms (alive a x i z o live) =
-        and_right (not (is_open n v)) _ (ap is_some z) ∙ sym (ap (λ k. ltb 0 k && not (was_collected n ms)) live.unended)
-    waits_by n v ms (waiting e z once x o over) =
-        ap (λ (b : Bool). not b && is_some (numbered n v.waiting)) x ∙ ap is_some z ∙ sym (ap (λ k. ltb 0 k && not (was_collected n ms)) over.ended_once ∙ ap not over.uncollected)
-    waits_by n v ms (gone z x o te wc) =
-        and_right (not (is_open n v)) _ (ap is_some z) ∙ sym (ap (λ k. ltb 0 k && not (was_collected n ms)) te ∙ ap not wc)
-
-    waits_alone : (n : ℕ) (v : RoomState P Q) (ms : List (Moment P T F Q)) → Life w p q n ms v → is_some (numbered n v.waiting) ≡ (not (is_open n v) && is_some (numbered n v.waiting))
-    waits_alone n v ms (unborn o x z te wc up fl st) = sym (ap (λ (b : Bool). not b && is_some (numbered n v.waiting)) x)
-    waits_alone n v ms (alive a x i z o live) = ap is_some z ∙ sym (and_right (not (is_open n v)) _ (ap is_some z))
-    waits_alone n v ms (waiting e z once x o over) = sym (ap (λ (b : Bool). not b && is_some (numbered n v.waiting)) x)
-    waits_alone n v ms (gone z x o te wc) = sym (ap (λ (b : Bool). not b && is_some (numbered n v.waiting)) x)
-
-    numbered_by : (n : ℕ) → Counted w m → opened_number m.answer ≡ Some n → n ≡ openings past + 1
+    numbered_by : (n : ℕ) → Counted w m → opened_number m.answer ≡ Some n → n ≡ openings (history_of past) + 1
     numbered_by n (same a b k) e = none_some n (sym a ∙ e)
-    numbered_by n (more a b x d k f g) e =
+    numbered_by n (more a b x d k f) e =
         let told : m.stepped.opened + 1 ≡ n = cc in
-        let then = Rattle.session.proofs.Ending.Lives.stepped_opened s m.stepped clock in
+        let then = stepped_opened s m.stepped clock in
         let count = h.counted in
         omega arith
-    numbered_by n (fewer a b x d k f g) e = none_some n (sym a ∙ e)
+    numbered_by n (fewer a b x d k f) e = none_some n (sym a ∙ e)
+
+  -- Ended, not vanished: an auction waits in the room as long as it has ended and was not collected.
+  pub waits_by : (n : ℕ) (v : RoomState P Q) (ms : List (Moment P T F Q)) → Life w p q n ms v → is_some (numbered n v.waiting) ≡ waits_then w p q n (history_of ms)
+  waits_by n v ms (unborn o x z te wc up) = ap is_some z ∙ sym (ap (λ k. is_over k && not (was_collected n (history_of ms))) o)
+  waits_by n v ms (alive a x i z o live) =
+      ap is_some z ∙ sym (ap (λ k. is_over k && not (was_collected n (history_of ms))) live.is_its_story ∙ ap (λ (k : Option EndCause). is_some k && not (was_collected n (history_of ms))) live.goes_on)
+  waits_by n v ms (waiting e z once x o over) =
+      ap is_some z
+      ∙ sym (ap (λ k. is_over k && not (was_collected n (history_of ms))) over.is_its_story ∙ ap (λ (k : Option EndCause). is_some k && not (was_collected n (history_of ms))) over.cause_is ∙ ap not over.uncollected)
+  waits_by n v ms (gone z x o g) = ap is_some z ∙ sym (and_right (is_over (story_of w p q n (history_of ms))) _ (ap not g.was_taken))
+
+  -- which does not wait while it is open
+  waits_alone : (n : ℕ) (v : RoomState P Q) (ms : List (Moment P T F Q)) → Life w p q n ms v → (not (is_open n v) && is_some (numbered n v.waiting)) ≡ is_some (numbered n v.waiting)
+  waits_alone n v ms (unborn o x z te wc up) = ap (λ (b : Bool). not b && is_some (numbered n v.waiting)) x
+  waits_alone n v ms (alive a x i z o live) = and_right (not (is_open n v)) _ (ap is_some z) ∙ sym (ap is_some z)
+  waits_alone n v ms (waiting e z once x o over) = ap (λ (b : Bool). not b && is_some (numbered n v.waiting)) x
+  waits_alone n v ms (gone z x o g) = ap (λ (b : Bool). not b && is_some (numbered n v.waiting)) x
 
   -- what an accepted opening opens
   opened_open : (m : Moment P T F Q) (n : ℕ) → OpenedHere w m ⊎ (opened_number m.answer ≡ None) → opened_number m.answer ≡ Some n → is_open n m.after ≡ true
@@ -177,11 +182,11 @@ module _ {P T F Q : Type 0} (w : World P T F Q) (drawn : WithinLimits w.source) 
       ap (λ (v : RoomState P Q). is_open n v) d.after_is ∙ (let test : eqb (m.stepped.opened + 1) n ≡ true = grind (arith, tests) in test)
   opened_open m n (inr none) h = none_some n (sym none ∙ h)
 
-  in_range : (n : ℕ) (v : RoomState P Q) (ms : List (Moment P T F Q)) → is_open n v ≡ true → Life w p q n ms v → is_some (opening_of w p q n ms) ≡ true
-  in_range n v ms k (unborn o x z te wc up fl st) = true_false (sym k ∙ x)
-  in_range n v ms k (alive a x i z o live) = ap is_some live.opened_as
+  in_range : (n : ℕ) (v : RoomState P Q) (ms : List (Moment P T F Q)) → is_open n v ≡ true → Life w p q n ms v → is_some (story_of w p q n (history_of ms)) ≡ true
+  in_range n v ms k (unborn o x z te wc up) = true_false (sym k ∙ x)
+  in_range n v ms k (alive a x i z o live) = ap is_some live.is_its_story
   in_range n v ms k (waiting e z once x o over) = true_false (sym k ∙ x)
-  in_range n v ms k (gone z x o te wc) = true_false (sym k ∙ x)
+  in_range n v ms k (gone z x o g) = true_false (sym k ∙ x)
 
   -- whether a collecting is accepted
   not_not_less : (n : ℕ) → not (ltb n 129) ≡ leb 129 n
@@ -192,56 +197,57 @@ module _ {P T F Q : Type 0} (w : World P T F Q) (drawn : WithinLimits w.source) 
   not_not false = refl
 
   collect_accepted : (past : List (Moment P T F Q)) (s : RoomState P Q) (h : Holds w drawn number p q past s) (room auction rows : ℕ)
-      → is_collected (step w s (Collect (record { room = room; auction = auction }) rows)).1 ≡ (leb 129 rows && (eqb room number && (ltb 0 (times_ended auction past) && not (was_collected auction past))))
+      → is_collected (step w s (Collect (record { room = room; auction = auction }) rows)).1 ≡ (leb 129 rows && (eqb room number && waits_then w p q auction (history_of past)))
   collect_accepted past s h room auction rows =
       accepted_by w (ltb rows 129) (not (eqb room s.number)) (is_number auction s.current) (numbered auction s.waiting) s
       (λ e. with_waiting (without_number auction s.waiting) s) (λ e. record { count = length (fill_rows w e); cause = e.cause })
       ∙ ap (λ (b : Bool). b && (not (not (eqb room s.number)) && (not (is_number auction s.current) && is_some (numbered auction s.waiting)))) (not_not_less rows)
       ∙ ap (λ (b : Bool). leb 129 rows && (b && (not (is_number auction s.current) && is_some (numbered auction s.waiting)))) (not_not (eqb room s.number))
       ∙ ap (λ k. leb 129 rows && (eqb room k && (not (is_number auction s.current) && is_some (numbered auction s.waiting)))) h.number_is
-      ∙ ap (λ (b : Bool). leb 129 rows && (eqb room number && b)) (waits_by past s (Collect (record { room = room; auction = auction }) rows) h auction s past (h.lives auction))
+      ∙ ap (λ (b : Bool). leb 129 rows && (eqb room number && b)) (waits_alone auction s past (h.lives auction) ∙ waits_by auction s past (h.lives auction))
 
   module _ (past : List (Moment P T F Q)) (s : RoomState P Q) (c : Call T) (h : Holds w drawn number p q past s) where
-    when_due : CollectedWhenDue number past (moment w s c)
+    when_due : CollectedWhenDue w number p q past (moment w s c)
     when_due room auction rows e = ap (λ (k : Call T). is_collected (step w s k).1) e ∙ collect_accepted past s h room auction rows
 
     not_vanished : EndedNotVanished w number p q past (moment w s c)
     not_vanished =
         let next = holds_after w drawn number p q past s c h in
         record {
-          waits_until_collected = λ n. waits_alone past s c h n (step w s c).0 (moment w s c ∷ past) (next.lives n) ∙ waits_by past s c h n (step w s c).0 (moment w s c ∷ past) (next.lives n);
+          waits_until_collected = λ n. waits_by n (step w s c).0 (moment w s c ∷ past) (next.lives n);
           none_lost = next.none_lost;
           at_most_two = next.at_most_two;
-          counted_from_one = λ n. numbered_by past s c h n (tally w drawn number p q past (moment w s c) h (clock past s c h) (did w s c));
+          counted_from_one = λ n. numbered_by past s c h n (tally w drawn number p q past (moment w s c) h (clock past s c h) (stepped_time F c s) (did w s c));
           opens_in_a_range = λ n e. let here = opened_open (moment w s c) n (opened_or_not w (moment w s c) (did w s c)) e in (here, in_range n (step w s c).0 (moment w s c ∷ past) here (next.lives n));
           collected_when_due = when_due;
         }
 
     -- For its causes and no others.
-    caused_by : (n : ℕ) → is_open n s ≡ true → Fate w p q n past (moment w s c) → ends_at n (moment w s c) ≡ is_some (cause_at w p q n past (moment w s c))
+    caused_by : (n : ℕ) → is_open n s ≡ true → Fate w p q n past (moment w s c) → ends_at n (moment w s c) ≡ is_some (cause_at w p q n (history_of past) (exchange_of (moment w s c)))
     caused_by n k (stays a e f i z live) =
         and_right (is_open n s) _ (ap not (ap (is_number n) f ∙ i)) ∙ sym (ap is_some e)
     caused_by n k (ends e) = and_from (is_open n s) _ k (ap not e.shut) ∙ sym (ap is_some e.caused)
 
-    caused_live : (n : ℕ) → is_open n s ≡ true → Life w p q n past s → ends_at n (moment w s c) ≡ is_some (cause_at w p q n past (moment w s c))
-    caused_live n k (unborn o x v te wc up fl st) = true_false (sym k ∙ x)
-    caused_live n k (alive a e i z o live) = caused_by n k (fate_of w drawn number p q past (moment w s c) h (clock past s c h) (did w s c) n a e i z o live)
+    caused_live : (n : ℕ) → is_open n s ≡ true → Life w p q n past s → ends_at n (moment w s c) ≡ is_some (cause_at w p q n (history_of past) (exchange_of (moment w s c)))
+    caused_live n k (unborn o x v te wc up) = true_false (sym k ∙ x)
+    caused_live n k (alive a e i z o live) = caused_by n k (fate_of w drawn number p q past (moment w s c) h (clock past s c h) (stepped_time F c s) (did w s c) n a e i z o live)
     caused_live n k (waiting e z once x o v) = true_false (sym k ∙ x)
-    caused_live n k (gone z x o te wc) = true_false (sym k ∙ x)
+    caused_live n k (gone z x o g) = true_false (sym k ∙ x)
 
     -- the auction that is collected is one that waits
     pub waits_over : (n : ℕ) (e : EndedAuction) → numbered n s.waiting ≡ Some e → Life w p q n past s → Over w p q n past e
-    waits_over n e k (unborn o x v te wc up fl st) = none_some e (sym v ∙ k)
+    waits_over n e k (unborn o x v te wc up) = none_some e (sym v ∙ k)
     waits_over n e k (alive a x i z o live) = none_some e (sym z ∙ k)
     waits_over n e k (waiting f z once x o v) = let is : f ≡ e = cc in subst (Over w p q n past) is v
-    waits_over n e k (gone z x o te wc) = none_some e (sym z ∙ k)
+    waits_over n e k (gone z x o g) = none_some e (sym z ∙ k)
 
     told_by : (auction : ℕ) → CollectedHere w (moment w s c) ⊎ (is_collected (step w s c).1 ≡ false) → (room rows : ℕ) → c ≡ Collect (record { room = room; auction = auction }) rows → is_collected (step w s c).1 ≡ true
-        → told_cause (step w s c).1 ≡ cause_of w p q auction past
+        → told_cause (step w s c).1 ≡ cause_of w p q auction (history_of past)
     told_by auction (inl d) room rows e k =
         let is : d.claim.auction ≡ auction = ap (λ (z : ClaimNumbers). z.auction) (let same : d.claim ≡ record { room = room; auction = auction } = let j = d.call_is in cc in same) in
         let at : numbered auction s.waiting ≡ Some d.auction = ap (λ (z : RoomState P Q). numbered auction z.waiting) (sym d.no_clock_step) ∙ ap (λ i. numbered i (moment w s c).stepped.waiting) (sym is) ∙ d.waited in
-        ap (λ (z : Answer F). told_cause z) d.answer_is ∙ sym (waits_over auction d.auction at (h.lives auction)).cause_is
+        let over = waits_over auction d.auction at (h.lives auction) in
+        ap (λ (z : Answer F). told_cause z) d.answer_is ∙ sym (over_cause w p q auction past d.auction over)
     told_by auction (inr none) room rows e k = true_false (sym k ∙ none)
 
     for_its_causes : EndedForItsCauses w number p q past (moment w s c)

@@ -1,7 +1,8 @@
--- The life of an auction, as its history tells it and as the room holds it: not yet opened, open, waiting, collected. What
--- the history tells of an auction stays as it is while the auction is not open.
-use Rattle.std.proofs.Common.{◌≡◌, ℕ, ◌+◌, ◌≤◌, max, Bool, true, false, cond, not, ◌&&◌, ◌||◌, eqb, leb, List, [], ◌∷◌, map, ℤ, Some, None, Option, sym, refl, ap, ◌∙◌, arith}
+-- The life of an auction, by its story and as the room holds it: not yet opened, open, waiting, collected. The story of an
+-- auction that has ended stays as it is.
+use Rattle.std.proofs.Common.{◌≡◌, ℕ, ◌+◌, ◌≤◌, max, Bool, true, false, cond, not, ◌&&◌, ◌||◌, eqb, leb, List, [], ◌∷◌, map, length, ℤ, is_some, Some, None, Option, sym, refl, ap, ◌∙◌, arith}
 use Rattle.std.proofs.lemmas.Bool.{and_left}
+use Rattle.std.specs.Option.{option_map}
 use lib.Signed.{lt_z}
 use Rattle.market.specs.declared.side.Side.{Side}
 use Rattle.allocation.proofs.Mates.{turned_twice}
@@ -11,19 +12,20 @@ use Rattle.allocation.specs.declared.order.GuaranteeKind.TheVariants.{SingleStop
 use Rattle.allocation.specs.declared.response.Kind.{Kind}
 use Rattle.allocation.specs.declared.response.Kind.TheVariants.{Sealed, Plain}
 use Rattle.allocation.specs.declared.response.Response.{Response}
-use Rattle.allocation.specs.Auction.{AuctionValues, told_of}
 use Rattle.allocation.specs.FillLaws.{response_told}
 use Rattle.room.specs.Clock.{due, clocked}
-use Rattle.room.specs.Openings.{stored_order}
 use Rattle.room.specs.State.{OpenAuction, EndedAuction, RoomState, at_time, ended, numbered}
 use Rattle.room.specs.Responses.{is_plain}
 use Rattle.room.specs.Ticks.{shown_above, shown_below, above_response, above_stop, floor_now}
 use Rattle.room.specs.World.{World}
-use Rattle.session.specs.History.{OpeningFacts, deadline_of, is_open, ends_at, opens, collects, keeps_open, times_ended, was_collected, stood_in, stood_answered, told_terms, opening_of, facts_then, order_in, floor_of, shown_to, cause_at, cause_of, is_above, is_below, shown_or, stop_passed, is_plain_kind, above_one}
-use Rattle.session.specs.Runs.{Moment, clock_stepped}
-use Rattle.room.proofs.Sound.{Sound}
+use Rattle.session.specs.declared.calls.Call.{Call}
+use Rattle.session.specs.History.{Story, is_above, is_below, shown_or, stop_passed, is_plain_kind, above_one, time_or_first, clock_time, opens, collects, was_collected, order_in, time_then, lived, story_after, story_opened, story_of, cause_told, cause_of, exchange_of, history_of}
+use Rattle.session.specs.Moments.{is_open, ends_at, times_ended}
+use Rattle.session.specs.Runs.{Moment, clock_stepped, given_time, input_refusal}
 use Rattle.room.proofs.Tests.{true_false}
 use Rattle.session.proofs.Ending.Waiting.{Once}
+use Rattle.session.proofs.Inputs.{fails_same}
+use Rattle.session.proofs.Linked.{Matches}
 
 -- What the clock step does: it moves the time, and no deadline is reached; or it ends the open auction.
 module _ {P Q : Type 0} where
@@ -51,8 +53,18 @@ module _ {P Q : Type 0} where
   clocked_time_by false t s = refl
 
   -- the clock step reaches the time that is given
-  pub clocked_time : (s : RoomState P Q) (t : ℕ) → (clocked s t).time ≡ max s.time t
+  clocked_time : (s : RoomState P Q) (t : ℕ) → (clocked s t).time ≡ max s.time t
   clocked_time s t = clocked_time_by (due (max s.time t) s.current) (max s.time t) s
+
+  stepped_time_by : {R : Type 0} (k : Option R) (g : Option ℕ) (s : RoomState P Q) → (clock_stepped k g s).time ≡ max s.time (cond (is_some k) 0 (time_or_first g))
+  stepped_time_by (Some e) g s = omega arith
+  stepped_time_by None None s = omega arith
+  stepped_time_by None (Some t) s = clocked_time s t
+
+  -- by the history's words: that of a timed call that passes its input checks
+  pub stepped_time : {T : Type 0} (F : Type 0) (c : Call T) (s : RoomState P Q) → (clock_stepped (input_refusal {F = F} c) (given_time c) s).time ≡ max s.time (clock_time c)
+  stepped_time F c s =
+      stepped_time_by (input_refusal {F = F} c) (given_time c) s ∙ ap (λ (b : Bool). max s.time (cond b 0 (time_or_first (given_time c)))) (sym (fails_same F c))
 
   -- and leaves what neither the time nor an end changes
   stepped_keeps : {X : Type 0} (f : RoomState P Q → X) → ((t : ℕ) (s : RoomState P Q) → f (at_time t s) ≡ f s) → ((s : RoomState P Q) → f (ended Deadline s) ≡ f s)
@@ -68,6 +80,9 @@ module _ {P Q : Type 0} where
 
   pub stepped_source : (s u : RoomState P Q) → Stepped s u → u.source ≡ s.source
   stepped_source = stepped_keeps (λ z. z.source) (λ t s. refl) (λ s. refl)
+
+  pub stepped_halted : (s u : RoomState P Q) → Stepped s u → u.halted ≡ s.halted
+  stepped_halted = stepped_keeps (λ z. z.halted) (λ t s. refl) (λ s. refl)
 
   pub stepped_number : (s u : RoomState P Q) → Stepped s u → u.number ≡ s.number
   stepped_number = stepped_keeps (λ z. z.number) (λ t s. refl) (λ s. refl)
@@ -106,102 +121,91 @@ above_one_is side (Some f) [] = refl
 above_one_is side (Some f) (x ∷ xs) = ap (λ z. lt_z z f || above_one side (Some f) (map (response_told side) xs)) (turned_twice side x.price) ∙ ap (λ b. lt_z x.price f || b) (above_one_is side (Some f) xs)
 
 module _ {P T F Q : Type 0} (w : World P T F Q) (p : P) (q : Q) where
-  -- the values of an auction are those that the history tells
-  pub record Tells (n : ℕ) (past : List (Moment P T F Q)) (f : OpeningFacts) (v : AuctionValues) : Type 0 where
-    pub order_is : v.order ≡ stored_order f.range.floor f.order
-    pub initiating_is : v.initiating ≡ f.range.initiating
-    pub floor_is : v.floor ≡ floor_of w p q n f past
-    pub stood_is : told_of v ≡ stood_in n past
-    pub sound : Sound v
-
   pub record Alive (n : ℕ) (past : List (Moment P T F Q)) (a : OpenAuction) : Type 0 where
-    pub facts : OpeningFacts
-    pub opened_as : opening_of w p q n past ≡ Some facts
-    pub deadline_is : a.deadline ≡ deadline_of facts
-    pub at_least : 100 ≤ facts.interval
-    pub at_most : facts.interval ≤ 1000
-    pub tells : Tells n past facts a.values
+    pub story : Story
+    pub is_its_story : story_of w p q n (history_of past) ≡ Some story
+    pub goes_on : story.ended ≡ None
+    pub matches : Matches story a
+    pub a_count_each : length a.used ≡ 16
+    pub from_one : 1 ≤ n
+    pub at_least : 100 ≤ story.opening.interval
+    pub at_most : story.opening.interval ≤ 1000
     pub unended : times_ended n past ≡ 0
-    pub uncollected : was_collected n past ≡ false
+    pub uncollected : was_collected n (history_of past) ≡ false
 
+  -- as it was when it ended
   pub record Over (n : ℕ) (past : List (Moment P T F Q)) (e : EndedAuction) : Type 0 where
-    pub facts : OpeningFacts
-    pub opened_as : opening_of w p q n past ≡ Some facts
-    pub tells : Tells n past facts e.values
-    pub cause_is : cause_of w p q n past ≡ Some e.cause
+    pub story : Story
+    pub is_its_story : story_of w p q n (history_of past) ≡ Some story
+    pub was : OpenAuction
+    pub as_it_was : e.values ≡ was.values
+    pub matches : Matches story was
+    pub cause_is : story.ended ≡ Some e.cause
+    pub from_one : 1 ≤ n
     pub ended_once : times_ended n past ≡ 1
-    pub uncollected : was_collected n past ≡ false
+    pub uncollected : was_collected n (history_of past) ≡ false
+
+  -- the cause for which it ended
+  pub over_cause : (n : ℕ) (past : List (Moment P T F Q)) (e : EndedAuction) → Over n past e → cause_of w p q n (history_of past) ≡ Some e.cause
+  over_cause n past e v = ap cause_told v.is_its_story ∙ v.cause_is
+
+  pub record Gone (n : ℕ) (past : List (Moment P T F Q)) : Type 0 where
+    pub story : Story
+    pub is_its_story : story_of w p q n (history_of past) ≡ Some story
+    pub is_over : is_some story.ended ≡ true
+    pub ended_once : times_ended n past ≡ 1
+    pub was_taken : was_collected n (history_of past) ≡ true
 
   pub data Life (n : ℕ) (past : List (Moment P T F Q)) (s : RoomState P Q) : Type 0 where
-    unborn : opening_of w p q n past ≡ None → is_open n s ≡ false → numbered n s.waiting ≡ None → times_ended n past ≡ 0 → was_collected n past ≡ false → (n ≤ s.opened → n ≡ 0)
-        → ((f : OpeningFacts) → floor_of w p q n f past ≡ f.range.floor) → stood_in n past ≡ [] → Life n past s
+    unborn : story_of w p q n (history_of past) ≡ None → is_open n s ≡ false → numbered n s.waiting ≡ None → times_ended n past ≡ 0 → was_collected n (history_of past) ≡ false
+        → (n ≤ s.opened → n ≡ 0) → Life n past s
     alive : (a : OpenAuction) → s.current ≡ Some a → eqb a.number n ≡ true → numbered n s.waiting ≡ None → n ≤ s.opened → Alive n past a → Life n past s
     waiting : (e : EndedAuction) → numbered n s.waiting ≡ Some e → Once n s.waiting → is_open n s ≡ false → n ≤ s.opened → Over n past e → Life n past s
-    gone : numbered n s.waiting ≡ None → is_open n s ≡ false → n ≤ s.opened → times_ended n past ≡ 1 → was_collected n past ≡ true → Life n past s
+    gone : numbered n s.waiting ≡ None → is_open n s ≡ false → n ≤ s.opened → Gone n past → Life n past s
 
   module _ (n : ℕ) (past : List (Moment P T F Q)) (m : Moment P T F Q) where
-    -- A moment that does not open an auction leaves its opening,
-    pub opening_kept : opens n m ≡ false → opening_of w p q n (m ∷ past) ≡ opening_of w p q n past
-    opening_kept h = ap (λ (b : Bool). cond b (facts_then w p q (order_in m.call) past m.after.time) (opening_of w p q n past)) h
+    -- A moment that does not open an auction continues its story, if it has one;
+    story_next : opens n (exchange_of m) ≡ false → story_of w p q n (history_of (m ∷ past)) ≡ option_map (story_after w p q (history_of past) (exchange_of m)) (story_of w p q n (history_of past))
+    story_next h =
+        ap (λ (b : Bool). cond b (story_opened w p q (order_in m.call) (history_of past) (time_then (history_of (m ∷ past)))) (option_map (story_after w p q (history_of past) (exchange_of m)) (story_of w p q n (history_of past)))) h
 
-    -- one at which it does not end leaves how often it ended, and why,
+    pub no_story : opens n (exchange_of m) ≡ false → story_of w p q n (history_of past) ≡ None → story_of w p q n (history_of (m ∷ past)) ≡ None
+    no_story h e = story_next h ∙ ap (option_map (story_after w p q (history_of past) (exchange_of m))) e
+
+    module _ (s : Story) (h : opens n (exchange_of m) ≡ false) (e : story_of w p q n (history_of past) ≡ Some s) where
+      story_by : (b : Bool) → is_some s.ended ≡ b → story_of w p q n (history_of (m ∷ past)) ≡ Some (cond b s (lived w p q (history_of past) (exchange_of m) s))
+      story_by b k =
+          story_next h ∙ ap (option_map (story_after w p q (history_of past) (exchange_of m))) e ∙ ap (λ (i : Bool). Some (cond i s (lived w p q (history_of past) (exchange_of m) s))) k
+
+      pub story_lives : s.ended ≡ None → story_of w p q n (history_of (m ∷ past)) ≡ Some (lived w p q (history_of past) (exchange_of m) s)
+      story_lives k = story_by false (ap is_some k)
+
+      pub story_over : is_some s.ended ≡ true → story_of w p q n (history_of (m ∷ past)) ≡ Some s
+      story_over k = story_by true k
+
+    -- one at which it does not end leaves how often it ended,
     pub ended_kept : ends_at n m ≡ false → times_ended n (m ∷ past) ≡ times_ended n past
     ended_kept h = ap (λ (b : Bool). cond b 1 0 + times_ended n past) h ∙ omega arith
 
     pub ended_now : ends_at n m ≡ true → times_ended n past ≡ 0 → times_ended n (m ∷ past) ≡ 1
     ended_now h k = ap (λ (b : Bool). cond b 1 0 + times_ended n past) h ∙ omega arith
 
-    pub cause_kept : ends_at n m ≡ false → cause_of w p q n (m ∷ past) ≡ cause_of w p q n past
-    cause_kept h = ap (λ (b : Bool). cond b (cause_at w p q n past m) (cause_of w p q n past)) h
+    -- and one that does not collect it leaves it uncollected.
+    pub collected_kept : collects n (exchange_of m) ≡ false → was_collected n (history_of (m ∷ past)) ≡ was_collected n (history_of past)
+    collected_kept h = ap (λ (b : Bool). b || was_collected n (history_of past)) h
 
-    pub cause_now : ends_at n m ≡ true → cause_of w p q n (m ∷ past) ≡ cause_at w p q n past m
-    cause_now h = ap (λ (b : Bool). cond b (cause_at w p q n past m) (cause_of w p q n past)) h
+    pub collected_now : collects n (exchange_of m) ≡ true → was_collected n (history_of (m ∷ past)) ≡ true
+    collected_now h = ap (λ (b : Bool). b || was_collected n (history_of past)) h
 
-    -- one that does not collect it leaves it uncollected,
-    pub collected_kept : collects n m ≡ false → was_collected n (m ∷ past) ≡ was_collected n past
-    collected_kept h = ap (λ (b : Bool). b || was_collected n past) h
-
-    pub collected_now : collects n m ≡ true → was_collected n (m ∷ past) ≡ true
-    collected_now h = ap (λ (b : Bool). b || was_collected n past) h
-
-    -- and the floor and the responses change only by what the calls at which it is open tell.
-    pub floor_kept : (f : OpeningFacts) → keeps_open n m ≡ false → floor_of w p q n f (m ∷ past) ≡ floor_of w p q n f past
-    floor_kept f h = ap (λ (b : Bool). cond b (shown_or (shown_to w p q f.order.side (m ∷ past)).floor (floor_of w p q n f past)) (floor_of w p q n f past)) h
-
-    pub floor_moved : (f : OpeningFacts) → keeps_open n m ≡ true → floor_of w p q n f (m ∷ past) ≡ shown_or (shown_to w p q f.order.side (m ∷ past)).floor (floor_of w p q n f past)
-    floor_moved f h = ap (λ (b : Bool). cond b (shown_or (shown_to w p q f.order.side (m ∷ past)).floor (floor_of w p q n f past)) (floor_of w p q n f past)) h
-
-    pub stood_closed : is_open n m.stepped ≡ false → stood_in n (m ∷ past) ≡ stood_in n past
-    stood_closed h = ap (λ (b : Bool). cond b (stood_answered m.call (told_terms m.answer) (stood_in n past)) (stood_in n past)) h
-
-    pub stood_open : is_open n m.stepped ≡ true → stood_in n (m ∷ past) ≡ stood_answered m.call (told_terms m.answer) (stood_in n past)
-    stood_open h = ap (λ (b : Bool). cond b (stood_answered m.call (told_terms m.answer) (stood_in n past)) (stood_in n past)) h
-
-    stood_by : (b : Bool) → is_open n m.stepped ≡ b → told_terms m.answer ≡ None → stood_in n (m ∷ past) ≡ stood_in n past
-    stood_by true k h = stood_open k ∙ ap (λ o. stood_answered m.call o (stood_in n past)) h
-    stood_by false k h = stood_closed k
-
-    pub stood_quiet : told_terms m.answer ≡ None → stood_in n (m ∷ past) ≡ stood_in n past
-    stood_quiet h = stood_by (is_open n m.stepped) refl h
-
-    -- while it is not open, nothing that is told of it changes
-    pub tells_kept : (f : OpeningFacts) (v : AuctionValues) → is_open n m.before ≡ false → is_open n m.stepped ≡ false → Tells n past f v → Tells n (m ∷ past) f v
-    tells_kept f v h k t = record {
-      order_is = t.order_is;
-      initiating_is = t.initiating_is;
-      floor_is = t.floor_is ∙ sym (floor_kept f (and_left (is_open n m.before) _ h));
-      stood_is = t.stood_is ∙ sym (stood_closed k);
-      sound = t.sound;
+    pub over_kept : (e : EndedAuction) → is_open n m.before ≡ false → opens n (exchange_of m) ≡ false → collects n (exchange_of m) ≡ false → Over n past e → Over n (m ∷ past) e
+    over_kept e h o c v = record {
+      story = v.story;
+      is_its_story = story_over v.story o v.is_its_story (ap is_some v.cause_is);
+      was = v.was;
+      as_it_was = v.as_it_was;
+      matches = v.matches;
+      cause_is = v.cause_is;
+      from_one = v.from_one;
+      ended_once = ended_kept (and_left (is_open n m.before) (not (is_open n m.after)) h) ∙ v.ended_once;
+      uncollected = collected_kept c ∙ v.uncollected;
     }
-
-    pub over_kept : (e : EndedAuction) → is_open n m.before ≡ false → is_open n m.stepped ≡ false → opens n m ≡ false → collects n m ≡ false → Over n past e → Over n (m ∷ past) e
-    over_kept e h k o c v =
-        let still = and_left (is_open n m.before) (not (is_open n m.after)) h in
-        record {
-          facts = v.facts;
-          opened_as = opening_kept o ∙ v.opened_as;
-          tells = tells_kept v.facts e.values h k v.tells;
-          cause_is = cause_kept still ∙ v.cause_is;
-          ended_once = ended_kept still ∙ v.ended_once;
-          uncollected = collected_kept c ∙ v.uncollected;
-        }

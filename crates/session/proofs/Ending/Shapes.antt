@@ -1,9 +1,11 @@
 -- What a call does to a room, in few shapes: it leaves the auctions alone, opens one, stores, changes or withdraws a
 -- response, takes a tick, halts, or collects. Each with what the answer tells. And what the clock step before it does.
-use Rattle.std.proofs.Common.{◌≡◌, ◌⊎◌, inl, inr, ℕ, ◌+◌, Bool, true, false, cond, not, ◌&&◌, eqb, leb, List, [], ◌∷◌, ◌++◌, map, length, ℤ, is_some, Some, None, Ok, Err, Option, Result, sym, refl, ap, ◌∙◌, subst}
+use Rattle.std.proofs.Common.{◌≡◌, ◌≢◌, ◌⊎◌, inl, inr, ℕ, ◌+◌, ◌-◌, ◌<◌, ◌≤◌, Bool, true, false, cond, not, ◌&&◌, eqb, leb, List, [], ◌∷◌, ◌++◌, map, length, length-set, ℤ, is_some, Some, None, Ok, Err, Option, Result, sym, refl, ap, ◌∙◌, subst, arith}
 use Rattle.std.proofs.lemmas.Bool.{and_from}
 use lib.Signed.{lt_z}
-use Rattle.std.proofs.lemmas.List.{map-append}
+use Rattle.std.proofs.lemmas.Bool.Decides.{nat_tests}
+use Rattle.std.proofs.lemmas.Grind.{get_or-set_at}
+use Rattle.std.proofs.lemmas.List.{map-append, get_or-set_other}
 use Rattle.market.specs.declared.refusal.RangeRefusal.{RangeRefusal}
 use Rattle.market.specs.declared.side.Side.{Side}
 use Rattle.market.specs.Range.{RangePrices, permitted}
@@ -27,13 +29,14 @@ use Rattle.room.specs.Clock.{clocked, timed}
 use Rattle.room.specs.Collecting.{collectable, collect_call, collect_rows, fill_rows, waiting_now}
 use Rattle.room.specs.Openings.{opening, opening_range, opened_with, range_told, guarantee_refusal, room_refusal, any_waits}
 use Rattle.room.specs.Refusals.{refuse, unless, outcome}
-use Rattle.room.specs.Responses.{side_checked, above_checked, in_use_checked, used_checked, responding_to, responding, responded, with_response, as_stored, stored_price, stored_size, terms_told, turned_in, standing_now, plain_checked, changing, changing_in, with_change, withdrawing, withdrawing_from, with_withdrawal}
-use Rattle.room.specs.State.{OpenAuction, EndedAuction, RoomState, at_position, with_halted, with_current, with_waiting, ended, is_number, numbered, without_number}
+use Rattle.room.specs.Responses.{side_checked, above_checked, in_use_checked, used_checked, responding_to, responding, responded, with_response, as_stored, stored_price, stored_size, terms_told, turned_in, with_counted, standing_now, plain_checked, changing, changing_in, with_change, withdrawing, withdrawing_from, with_withdrawal}
+use Rattle.room.specs.State.{OpenAuction, EndedAuction, RoomState, at_position, with_halted, with_current, with_waiting, ended, is_number, numbered, without_number, used_by, one_more}
 use Rattle.room.specs.Ticks.{ticked, ticking_by, ticking}
 use Rattle.room.specs.World.{World}
 use Rattle.session.specs.declared.calls.Call.{Call}
 use Rattle.session.specs.declared.calls.Call.TheVariants.{Open, Respond, Change, Withdraw, Tick, Halt, Resume, Clock, Look, Collect}
-use Rattle.session.specs.History.{opened_number, told_terms, is_accepted, is_collected, tick_in, is_halt, claimed, plain_below, stood_after, changed_then, withdrawn_then}
+use Rattle.session.specs.History.{opened_number, told_terms, is_accepted, is_collected, tick_in, is_halt, halted_by, claimed, plain_below, stood_after, storing_after, changed_then, withdrawn_then}
+use Rattle.session.specs.Reasons.{stored_by}
 use Rattle.session.specs.Runs.{Answer, Opened, Stored, Accepted, Looked, Collected, Refused, Moment, answered, answering, clock_stepped, moment}
 use Rattle.session.proofs.Choices.{cond_through}
 use Rattle.session.proofs.Ending.Lives.{plain_is, unstepped}
@@ -56,6 +59,12 @@ pub record SameButResponses (a b : OpenAuction) : Type 0 where
   pub same_order : b.values.order ≡ a.values.order
   pub same_floor : b.values.floor ≡ a.values.floor
   pub same_initiating : b.values.initiating ≡ a.values.initiating
+  pub as_many_counts : length b.used ≡ length a.used
+
+-- it counts the responses and changes of these members
+pub record CountsThese (ms : List ℕ) (a : OpenAuction) : Type 0 where
+  pub all : a.arrivals ≡ length ms
+  pub of_each : (member : ℕ) → 1 ≤ member → member ≤ 16 → used_by member a.used ≡ stored_by member ms
 
 module _ {P T F Q : Type 0} (w : World P T F Q) where
   -- an auction is opened
@@ -81,14 +90,25 @@ module _ {P T F Q : Type 0} (w : World P T F Q) where
     pub after_is : m.after ≡ with_waiting (without_number claim.auction m.stepped.waiting) m.stepped
     pub waited : numbered claim.auction m.stepped.waiting ≡ Some auction
 
+  -- a response is stored, changed or withdrawn; a plain one priced below the floor then ends the auction
+  pub record StoredHere (m : Moment P T F Q) : Type 0 where
+    pub was : OpenAuction
+    pub now : OpenAuction
+    pub terms : StoredTerms
+    pub was_open : m.stepped.current ≡ Some was
+    pub answer_is : m.answer ≡ Stored terms
+    pub claims_none : claimed m.call ≡ None
+    pub same : SameButResponses was now
+    pub stood_is : told_of now.values ≡ stood_after m.call terms (told_of was.values)
+    pub sound : Sound was.values → Sound now.values
+    pub counts : length was.used ≡ 16 → (ms : List ℕ) → CountsThese ms was → CountsThese (storing_after m.call ms) now
+    pub after_is : m.after ≡ cond (plain_below was.values.order.side was.values.floor m.call) (ended PlainBelowFloor (with_current now m.stepped)) (with_current now m.stepped)
+
   pub data Did (m : Moment P T F Q) : Type 0 where
     -- nothing happens to an auction
-    idle : (b : Bool) → m.after ≡ with_halted b m.stepped → Quiet m.call m.answer → Did m
+    idle : (b : Bool) → b ≡ cond (is_accepted m.answer) (halted_by m.call m.stepped.halted) m.stepped.halted → m.after ≡ with_halted b m.stepped → Quiet m.call m.answer → Did m
     opened : OpenedHere m → Did m
-    -- responses are stored, changed or withdrawn; a plain one priced below the floor then ends the auction
-    stored : (a b : OpenAuction) (t : StoredTerms) → m.stepped.current ≡ Some a → m.answer ≡ Stored t → claimed m.call ≡ None
-        → SameButResponses a b → told_of b.values ≡ stood_after m.call t (told_of a.values) → (Sound a.values → Sound b.values)
-        → m.after ≡ cond (plain_below a.values.order.side a.values.floor m.call) (ended PlainBelowFloor (with_current b m.stepped)) (with_current b m.stepped) → Did m
+    stored : StoredHere m → Did m
     -- the market takes a tick
     ticks : (time : ℕ) (x : T) → m.call ≡ Tick time x → m.answer ≡ Accepted
         → m.after ≡ ticked m.stepped.current (w.market.shows (w.market.next m.stepped.position x)) (at_position (w.market.next m.stepped.position x) m.stepped) → Did m
@@ -98,18 +118,18 @@ module _ {P T F Q : Type 0} (w : World P T F Q) where
 
   -- an auction is opened, or the answer tells of none
   pub opened_or_not : (m : Moment P T F Q) → Did m → OpenedHere m ⊎ (opened_number m.answer ≡ None)
-  opened_or_not m (idle b e k) = inr k.opens_none
+  opened_or_not m (idle b i e k) = inr k.opens_none
   opened_or_not m (opened d) = inl d
-  opened_or_not m (stored a b t e y g like told sound f) = inr (ap (λ (v : Answer F). opened_number v) y)
+  opened_or_not m (stored d) = inr (ap (λ (v : Answer F). opened_number v) d.answer_is)
   opened_or_not m (ticks t x j y f) = inr (ap (λ (v : Answer F). opened_number v) y)
   opened_or_not m (halts t j y f) = inr (ap (λ (v : Answer F). opened_number v) y)
   opened_or_not m (collected d) = inr (ap (λ (v : Answer F). opened_number v) d.answer_is)
 
   -- an auction is collected, or the answer tells of none
   pub collected_or_not : (m : Moment P T F Q) → Did m → CollectedHere m ⊎ (is_collected m.answer ≡ false)
-  collected_or_not m (idle b e k) = inr k.collects_none
+  collected_or_not m (idle b i e k) = inr k.collects_none
   collected_or_not m (opened d) = inr (ap (λ (v : Answer F). is_collected v) d.answer_is)
-  collected_or_not m (stored a b t e y g like told sound f) = inr (ap (λ (v : Answer F). is_collected v) y)
+  collected_or_not m (stored d) = inr (ap (λ (v : Answer F). is_collected v) d.answer_is)
   collected_or_not m (ticks t x j y f) = inr (ap (λ (v : Answer F). is_collected v) y)
   collected_or_not m (halts t j y f) = inr (ap (λ (v : Answer F). is_collected v) y)
   collected_or_not m (collected d) = inl d
@@ -152,7 +172,7 @@ module _ {P T F Q : Type 0} (w : World P T F Q) where
   did_opening : (s u : RoomState P Q) (x : OpeningRequest) (y : Result RangePrices (Refusal F)) → opening_range w u x.order ≡ y → leb 1 x.order.size ≡ true → Did (opening_moment s u x y)
   did_opening s u x (Ok r) e k = let ok = opening_ok u x.order r e in
       opened (record { request = x; range = r; call_is = refl; answer_is = refl; after_is = refl; permitted_then = ok.0; guaranteed = ok.1; sized = k; none_waited = opening_alone u x.order r e })
-  did_opening s u x (Err f) e k = idle u.halted refl (refused_quiet (Open x) f)
+  did_opening s u x (Err f) e k = idle u.halted refl refl (refused_quiet (Open x) f)
 
   abbrev open_moment : RoomState P Q → OpeningRequest → Option (Refusal F) → Moment P T F Q
   open_moment s x k =
@@ -161,7 +181,7 @@ module _ {P T F Q : Type 0} (w : World P T F Q) where
 
   did_open : (s : RoomState P Q) (x : OpeningRequest) (k : Option (Refusal F)) → open_checks {F = F} x ≡ k → Did (open_moment s x k)
   did_open s x None e = did_opening s (clocked s x.time) x (opening_range w (clocked s x.time) x.order) refl (opening_sized F x e)
-  did_open s x (Some f) e = idle s.halted refl (refused_quiet (Open x) f)
+  did_open s x (Some f) e = idle s.halted refl refl (refused_quiet (Open x) f)
 
   -- Ticks.
   abbrev ticking_moment : RoomState P Q → RoomState P Q → ℕ → T → Result (Unit {0}) F → Moment P T F Q
@@ -171,7 +191,7 @@ module _ {P T F Q : Type 0} (w : World P T F Q) where
 
   did_ticking : (s u : RoomState P Q) (t : ℕ) (x : T) (y : Result (Unit {0}) F) → Did (ticking_moment s u t x y)
   did_ticking s u t x (Ok k) = ticks t x refl refl refl
-  did_ticking s u t x (Err f) = idle u.halted refl (refused_quiet (Tick t x) _)
+  did_ticking s u t x (Err f) = idle u.halted refl refl (refused_quiet (Tick t x) _)
 
   abbrev timed_moment : (Y : Type 0) → RoomState P Q → Call T → ℕ → (Y → Answer F) → (RoomState P Q → RoomState P Q × Result Y (Refusal F)) → Option (Refusal F) → Moment P T F Q
   timed_moment Y s c t f business k =
@@ -180,23 +200,23 @@ module _ {P T F Q : Type 0} (w : World P T F Q) where
 
   did_tick : (s : RoomState P Q) (t : ℕ) (x : T) (k : Option (Refusal F)) → Did (timed_moment (Unit {0}) s (Tick t x) t (λ _. Accepted) (λ u. ticking w u x) k)
   did_tick s t x None = let u = clocked s t in did_ticking s u t x (w.market.answer u.position x)
-  did_tick s t x (Some f) = idle s.halted refl (refused_quiet (Tick t x) f)
+  did_tick s t x (Some f) = idle s.halted refl refl (refused_quiet (Tick t x) f)
 
   -- Halts, resumes and clock calls.
   did_halt : (s : RoomState P Q) (t : ℕ) (k : Option (Refusal F)) → Did (timed_moment (Unit {0}) s (Halt t) t (λ _. Accepted) (λ u. (with_halted true (ended Halted u), Ok tt)) k)
   did_halt s t None = halts t refl refl refl
-  did_halt s t (Some f) = idle s.halted refl (refused_quiet (Halt t) f)
+  did_halt s t (Some f) = idle s.halted refl refl (refused_quiet (Halt t) f)
 
   accepted_quiet : (c : Call T) → tick_in c ≡ None → is_halt c ≡ false → Quiet {F = F} c Accepted
   accepted_quiet c h k = record { opens_none = refl; stores_none = refl; collects_none = refl; ticks_none = ap is_some h; halts_none = k }
 
   did_resume : (s : RoomState P Q) (t : ℕ) (k : Option (Refusal F)) → Did (timed_moment (Unit {0}) s (Resume t) t (λ _. Accepted) (λ u. (with_halted false u, Ok tt)) k)
-  did_resume s t None = idle false refl (accepted_quiet (Resume t) refl refl)
-  did_resume s t (Some f) = idle s.halted refl (refused_quiet (Resume t) f)
+  did_resume s t None = idle false refl refl (accepted_quiet (Resume t) refl refl)
+  did_resume s t (Some f) = idle s.halted refl refl (refused_quiet (Resume t) f)
 
   did_clock : (s : RoomState P Q) (t : ℕ) (k : Option (Refusal F)) → Did (timed_moment (Unit {0}) s (Clock t) t (λ _. Accepted) (λ u. (u, Ok tt)) k)
-  did_clock s t None = idle (clocked s t).halted refl (accepted_quiet (Clock t) refl refl)
-  did_clock s t (Some f) = idle s.halted refl (refused_quiet (Clock t) f)
+  did_clock s t None = idle (clocked s t).halted refl refl (accepted_quiet (Clock t) refl refl)
+  did_clock s t (Some f) = idle s.halted refl refl (refused_quiet (Clock t) f)
 
   -- Responses. The table as told, with one changed, one withdrawn.
   told_changed : (side : Side) (m o size : ℕ) (z : ℤ) (n : ℕ) (xs : List Response)
@@ -212,8 +232,28 @@ module _ {P T F Q : Type 0} (w : World P T F Q) where
       cond_through (map (response_told side)) (is_of m o x) xs (x ∷ without_own m o xs)
       ∙ ap (λ l. cond (is_of m o x) (map (response_told side) xs) (response_told side x ∷ l)) (told_withdrawn side m o xs)
 
-  same_but : (a b : OpenAuction) → b.number ≡ a.number → b.deadline ≡ a.deadline → b.values.order ≡ a.values.order → b.values.floor ≡ a.values.floor → b.values.initiating ≡ a.values.initiating → SameButResponses a b
-  same_but a b e f g h k = record { same_number = e; same_deadline = f; same_order = g; same_floor = h; same_initiating = k }
+  same_but : (a b : OpenAuction) → b.number ≡ a.number → b.deadline ≡ a.deadline → b.values.order ≡ a.values.order → b.values.floor ≡ a.values.floor → b.values.initiating ≡ a.values.initiating → length b.used ≡ length a.used
+      → SameButResponses a b
+  same_but a b e f g h k l = record { same_number = e; same_deadline = f; same_order = g; same_floor = h; same_initiating = k; as_many_counts = l }
+
+  -- one more of a member
+  more_of : (b : Bool) (member k : ℕ) (used ms : List ℕ) → eqb member k ≡ b → from_to 1 16 member ≡ true → length used ≡ 16 → 1 ≤ k → used_by member used ≡ stored_by member ms → used_by k used ≡ stored_by k ms
+      → used_by k (one_more member used) ≡ cond b 1 0 + stored_by k ms
+  more_of true member k used ms e i l h x y =
+      let is : k - 1 ≡ member - 1 = grind (arith, nat_tests) in
+      let inside : member - 1 < length used = grind (arith, nat_tests) in
+      let same : member ≡ k = grind (arith, nat_tests) in
+      get_or-set_at used (member - 1) (k - 1) (used_by member used + 1) 0 is inside ∙ (let z = ap (λ j. stored_by j ms) same in omega arith)
+  more_of false member k used ms e i l h x y =
+      let other : k - 1 ≢ member - 1 = grind (arith, nat_tests) in
+      get_or-set_other used (member - 1) (k - 1) (used_by member used + 1) 0 other ∙ y ∙ omega arith
+
+  counts_more : (a : OpenAuction) (member : ℕ) (xs : List Response) → from_to 1 16 member ≡ true → length a.used ≡ 16 → (ms : List ℕ) → CountsThese ms a → CountsThese (member ∷ ms) (with_counted a member xs)
+  counts_more a member xs i l ms c =
+      let low : 1 ≤ member = grind (arith, nat_tests) in
+      let high : member ≤ 16 = grind (arith, nat_tests) in
+      let before = c.all in
+      record { all = omega arith; of_each = λ k h g. more_of (eqb member k) member k a.used ms refl i l h (c.of_each member low high) (c.of_each k h g) }
 
   -- an accepted response found the auction open, and is not above the initiating price
   responding_ok : (c : Option OpenAuction) (x : ResponseRequest) (a : OpenAuction) → responding_to {F = F} c x ≡ Ok a → (c ≡ Some a) × (lt_z a.values.initiating (turned_in a x.price) ≡ false)
@@ -241,16 +281,24 @@ module _ {P T F Q : Type 0} (w : World P T F Q) where
   did_responding : (s u : RoomState P Q) (x : ResponseRequest) (y : Result OpenAuction (Refusal F)) → responding_to {F = F} u.current x ≡ y → TermsInside F x.size x.member x.own → Did (responding_moment s u x y)
   did_responding s u x (Ok a) e i =
       let ok = responding_ok u.current x a e in
-      stored a (with_response a x) (terms_told a (stored_price a x.price) (stored_size a x.size)) ok.0 refl refl
-      (same_but a (with_response a x) refl refl refl refl refl)
-      (map-append (response_told a.values.order.side) a.values.stood (as_stored a x ∷ []))
-      (response_sound a x i ok.1)
-      (ap (λ (b : Bool). cond b (ended PlainBelowFloor (with_current (with_response a x) u)) (with_current (with_response a x) u)) (sym (plain_is x.kind (lt_z (turned a.values.order.side x.price) a.values.floor))))
-  did_responding s u x (Err f) e i = idle u.halted refl (refused_quiet (Respond x) f)
+      stored (record {
+        was = a;
+        now = with_response a x;
+        terms = terms_told a (stored_price a x.price) (stored_size a x.size);
+        was_open = ok.0;
+        answer_is = refl;
+        claims_none = refl;
+        same = same_but a (with_response a x) refl refl refl refl refl (length-set a.used _ _);
+        stood_is = map-append (response_told a.values.order.side) a.values.stood (as_stored a x ∷ []);
+        sound = response_sound a x i ok.1;
+        counts = counts_more a x.member (a.values.stood ++ as_stored a x ∷ []) i.member_inside;
+        after_is = ap (λ (b : Bool). cond b (ended PlainBelowFloor (with_current (with_response a x) u)) (with_current (with_response a x) u)) (sym (plain_is x.kind (lt_z (turned a.values.order.side x.price) a.values.floor)));
+      })
+  did_responding s u x (Err f) e i = idle u.halted refl refl (refused_quiet (Respond x) f)
 
   did_respond : (s : RoomState P Q) (x : ResponseRequest) (k : Option (Refusal F)) → respond_checks {F = F} x ≡ k → Did (timed_moment StoredTerms s (Respond x) x.time Stored (λ u. responding u x) k)
   did_respond s x None e = let u = clocked s x.time in did_responding s u x (responding_to u.current x) refl (response_inside F x e)
-  did_respond s x (Some f) e = idle s.halted refl (refused_quiet (Respond x) f)
+  did_respond s x (Some f) e = idle s.halted refl refl (refused_quiet (Respond x) f)
 
   -- Changes.
   changing_ok : (c : Option OpenAuction) (x : ChangeRequest) (a : OpenAuction) → changing_in {F = F} c x ≡ Ok a → (c ≡ Some a) × (lt_z a.values.initiating (turned_in a x.price) ≡ false)
@@ -276,15 +324,25 @@ module _ {P T F Q : Type 0} (w : World P T F Q) where
   did_changing : (s u : RoomState P Q) (x : ChangeRequest) (y : Result OpenAuction (Refusal F)) → changing_in {F = F} u.current x ≡ y → TermsInside F x.size x.member x.own → Did (changing_moment s u x y)
   did_changing s u x (Ok a) e i =
       let ok = changing_ok u.current x a e in
-      stored a (with_change a x) (terms_told a (stored_price a x.price) (stored_size a x.size)) ok.0 refl refl
-      (same_but a (with_change a x) refl refl refl refl refl)
-      (told_changed a.values.order.side x.member x.own (stored_size a x.size) (stored_price a x.price) (a.arrivals + 1) a.values.stood)
-      (change_sound a x i ok.1) refl
-  did_changing s u x (Err f) e i = idle u.halted refl (refused_quiet (Change x) f)
+      let changed = own_changed x.member x.own (stored_size a x.size) (stored_price a x.price) (a.arrivals + 1) a.values.stood in
+      stored (record {
+        was = a;
+        now = with_change a x;
+        terms = terms_told a (stored_price a x.price) (stored_size a x.size);
+        was_open = ok.0;
+        answer_is = refl;
+        claims_none = refl;
+        same = same_but a (with_change a x) refl refl refl refl refl (length-set a.used _ _);
+        stood_is = told_changed a.values.order.side x.member x.own (stored_size a x.size) (stored_price a x.price) (a.arrivals + 1) a.values.stood;
+        sound = change_sound a x i ok.1;
+        counts = counts_more a x.member changed i.member_inside;
+        after_is = refl;
+      })
+  did_changing s u x (Err f) e i = idle u.halted refl refl (refused_quiet (Change x) f)
 
   did_change : (s : RoomState P Q) (x : ChangeRequest) (k : Option (Refusal F)) → change_checks {F = F} x ≡ k → Did (timed_moment StoredTerms s (Change x) x.time Stored (λ u. changing u x) k)
   did_change s x None e = let u = clocked s x.time in did_changing s u x (changing_in u.current x) refl (change_inside F x e)
-  did_change s x (Some f) e = idle s.halted refl (refused_quiet (Change x) f)
+  did_change s x (Some f) e = idle s.halted refl refl (refused_quiet (Change x) f)
 
   -- Withdrawals.
   withdrawing_ok : (c : Option OpenAuction) (x : WithdrawRequest) (f : OpenAuction × Response) → withdrawing_from {F = F} c x ≡ Ok f → c ≡ Some f.0
@@ -303,15 +361,24 @@ module _ {P T F Q : Type 0} (w : World P T F Q) where
   did_withdrawing : (s u : RoomState P Q) (x : WithdrawRequest) (y : Result (OpenAuction × Response) (Refusal F)) → withdrawing_from {F = F} u.current x ≡ y → Did (withdrawing_moment s u x y)
   did_withdrawing s u x (Ok f) e =
       let a = f.0 in
-      stored a (with_withdrawal a x) (terms_told a f.1.price f.1.size) (withdrawing_ok u.current x f e) refl refl
-      (same_but a (with_withdrawal a x) refl refl refl refl refl)
-      (told_withdrawn a.values.order.side x.member x.own a.values.stood)
-      (λ h. stood_sound a.values _ h (each_without x.member x.own (response_ok a.values.order.size a.values.floor a.values.initiating) a.values.stood h.standing)) refl
-  did_withdrawing s u x (Err f) e = idle u.halted refl (refused_quiet (Withdraw x) f)
+      stored (record {
+        was = a;
+        now = with_withdrawal a x;
+        terms = terms_told a f.1.price f.1.size;
+        was_open = withdrawing_ok u.current x f e;
+        answer_is = refl;
+        claims_none = refl;
+        same = same_but a (with_withdrawal a x) refl refl refl refl refl refl;
+        stood_is = told_withdrawn a.values.order.side x.member x.own a.values.stood;
+        sound = λ h. stood_sound a.values _ h (each_without x.member x.own (response_ok a.values.order.size a.values.floor a.values.initiating) a.values.stood h.standing);
+        counts = λ l ms c. record { all = c.all; of_each = c.of_each };
+        after_is = refl;
+      })
+  did_withdrawing s u x (Err f) e = idle u.halted refl refl (refused_quiet (Withdraw x) f)
 
   did_withdraw : (s : RoomState P Q) (x : WithdrawRequest) (k : Option (Refusal F)) → Did (timed_moment StoredTerms s (Withdraw x) x.time Stored (λ u. withdrawing u x) k)
   did_withdraw s x None = let u = clocked s x.time in did_withdrawing s u x (withdrawing_from u.current x) refl
-  did_withdraw s x (Some f) = idle s.halted refl (refused_quiet (Withdraw x) f)
+  did_withdraw s x (Some f) = idle s.halted refl refl (refused_quiet (Withdraw x) f)
 
   -- Collecting.
   waiting_ok : (o : Option EndedAuction) (e : EndedAuction) → waiting_now {F = F} o ≡ Ok e → o ≡ Some e
@@ -341,7 +408,7 @@ module _ {P T F Q : Type 0} (w : World P T F Q) where
         after_is = sym (ap (λ (z : RoomState P Q). with_waiting (without_number c.auction z.waiting) z) h);
         waited = ap (λ (z : RoomState P Q). numbered c.auction z.waiting) h ∙ collect_ok s c n e k;
       })
-  did_collecting s u c n (Err f) h k = idle s.halted (sym (ap (λ (z : RoomState P Q). with_halted s.halted z) h)) (refused_quiet (Collect c n) f)
+  did_collecting s u c n (Err f) h k = idle s.halted (ap (λ (z : RoomState P Q). z.halted) (sym h)) (sym (ap (λ (z : RoomState P Q). with_halted s.halted z) h)) (refused_quiet (Collect c n) f)
 
   looked_quiet : (v : _) → Quiet {T = T} {F = F} Look (Looked v)
   looked_quiet v = record { opens_none = refl; stores_none = refl; collects_none = refl; ticks_none = refl; halts_none = refl }
@@ -356,5 +423,5 @@ module _ {P T F Q : Type 0} (w : World P T F Q) where
   did s (Halt t) = did_halt s t (time_checks t)
   did s (Resume t) = did_resume s t (time_checks t)
   did s (Clock t) = did_clock s t (time_checks t)
-  did s Look = idle s.halted refl (looked_quiet _)
+  did s Look = idle s.halted refl refl (looked_quiet _)
   did s (Collect c n) = did_collecting s (clock_stepped (collect_checks {F = F} n) None s) c n (collectable s c n) (unstepped (collect_checks n) s) refl

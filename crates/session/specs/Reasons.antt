@@ -1,0 +1,179 @@
+-- Why a call is accepted or refused, and what it is told, from the calls and the answers before it. Of the reasons against a
+-- call the first that holds is told, by its number; where none holds it is accepted.
+use Rattle.std.specs.Prelude.{◌≡◌, ℕ, ◌+◌, max, min, Bool, true, false, cond, not, ◌&&◌, ◌||◌, List, [], ◌∷◌, ◌++◌, ℤ, is_some, is_ok, Some, None, Err, Option, ◌==◌, int_lt, nat_le, nat_lt}
+use Rattle.std.specs.Int.{int_max}
+use Rattle.std.specs.Option.{option_map}
+use Rattle.market.specs.declared.range.TurnedQuote.{TurnedQuote}
+use Rattle.market.specs.declared.side.Side.{Side}
+use Rattle.market.specs.declared.side.Side.TheVariants.{Buy, Sell}
+use Rattle.market.specs.Turned.{turned}
+use Rattle.allocation.specs.declared.order.PairedOrder.{PairedOrder}
+use Rattle.allocation.specs.FillLaws.{Told}
+use Rattle.room.specs.declared.answers.ClaimNumbers.{ClaimNumbers}
+use Rattle.room.specs.declared.answers.StoredTerms.{StoredTerms}
+use Rattle.room.specs.declared.refusal.Refusal.TheVariants.{MarketFault}
+use Rattle.room.specs.declared.requests.ChangeRequest.{ChangeRequest}
+use Rattle.room.specs.declared.requests.ResponseRequest.{ResponseRequest}
+use Rattle.room.specs.declared.requests.WithdrawRequest.{WithdrawRequest}
+use Rattle.room.specs.Refusals.{refusal_number}
+use Rattle.room.specs.World.{World}
+use Rattle.session.specs.declared.calls.Call.{Call}
+use Rattle.session.specs.declared.calls.Call.TheVariants.{Open, Respond, Change, Withdraw, Tick, Halt, Resume, Clock, Look, Collect}
+use Rattle.session.specs.History.{Exchange, Story, is_above, is_below, is_plain_kind, is_own, going_on, not_due, clock_time, time_then, halted_then, openings, market_at, shown_to, story_of, open_story, waits_then, waiting_then, history_of, Throughout}
+use Rattle.session.specs.Inputs.{first_that_holds, input_reasons, input_reason}
+use Rattle.session.specs.Runs.{Answer, Opened, Stored, Accepted, Looked, Collected, Refused, Moment, run}
+
+-- The number of the refusal that a call was told.
+abbrev pub refused_number : {F : Type 0} → Answer F → Option ℕ
+refused_number (Refused e) = Some (refusal_number e)
+refused_number _ = None
+
+-- The market's fault that a refusal holds.
+abbrev pub fault_told : {F : Type 0} → Answer F → Option F
+fault_told (Refused (MarketFault f)) = Some f
+fault_told _ = None
+
+-- An answer is a refusal, or of the kind that the call has: a claim, a stored price and size, acceptance, a view, rows.
+abbrev pub in_kind : {T F : Type 0} → Call T → Answer F → Bool
+in_kind _ (Refused e) = true
+in_kind (Open x) (Opened c) = true
+in_kind (Respond x) (Stored t) = true
+in_kind (Change x) (Stored t) = true
+in_kind (Withdraw x) (Stored t) = true
+in_kind (Tick t x) Accepted = true
+in_kind (Halt t) Accepted = true
+in_kind (Resume t) Accepted = true
+in_kind (Clock t) Accepted = true
+in_kind Look (Looked v) = true
+in_kind (Collect c n) (Collected k fs) = true
+in_kind _ _ = false
+
+-- Both buy, or both sell.
+abbrev pub on_one_side : Side → Side → Bool
+on_one_side Buy Buy = true
+on_one_side Sell Sell = true
+on_one_side _ _ = false
+
+-- The response of a member with an own number, if it stands.
+abbrev pub standing_of : ℕ → ℕ → List Told → Option Told
+standing_of member own [] = None
+standing_of member own (r ∷ rs) = cond (is_own member own r) (Some r) (standing_of member own rs)
+
+-- It stands and is plain.
+abbrev pub is_plain_standing : Option Told → Bool
+is_plain_standing None = false
+is_plain_standing (Some r) = is_plain_kind r.kind
+
+-- How many responses and changes of a member an auction has accepted.
+abbrev pub stored_by : ℕ → List ℕ → ℕ
+stored_by member [] = 0
+stored_by member (m ∷ ms) = cond (m == member) 1 0 + stored_by member ms
+
+-- The contra price that is shown is below the floor that is shown.
+abbrev pub crossed : Option ℤ → Option ℤ → Bool
+crossed None contra = false
+crossed (Some floor) contra = is_below contra floor
+
+-- The reasons against an opening that follow from what its side is shown: 14 a side shows no price; 15 the limit or the
+-- contra price is below the floor; 16 the guarantee is above the limit or the contra price.
+abbrev pub price_reasons : PairedOrder → TurnedQuote → List (Bool × ℕ)
+price_reasons o q =
+    (not (is_some q.floor && is_some q.contra), 14)
+    ∷ ((is_above q.floor (turned o.side o.limit) || crossed q.floor q.contra, 15)
+    ∷ ((int_lt (turned o.side o.limit) (turned o.side o.guarantee.price) || is_below q.contra (turned o.side o.guarantee.price), 16)
+    ∷ []))
+
+-- Where no auction is open, that is the reason, 21; otherwise there are those of the open one.
+abbrev pub by_open : Option Story → (Story → List (Bool × ℕ)) → List (Bool × ℕ)
+by_open None reasons = (true, 21) ∷ []
+by_open (Some s) reasons = reasons s
+
+-- The price, turned, is above the initiating price.
+abbrev pub above_initiating : Story → ℤ → Bool
+above_initiating s price = int_lt s.opening.range.initiating (turned s.opening.order.side price)
+
+-- The member's 10,000 accepted responses and changes are used.
+abbrev pub used_up : Story → ℕ → Bool
+used_up s member = nat_le 10000 (stored_by member s.storing)
+
+-- A response: 22 it is on the order's side, 23 above the initiating price, 24 its own number is in use, 27 the 10,000 are
+-- used.
+abbrev pub respond_reasons : ResponseRequest → Story → List (Bool × ℕ)
+respond_reasons x s =
+    (on_one_side x.side s.opening.order.side, 22)
+    ∷ ((above_initiating s x.price, 23)
+    ∷ ((is_some (standing_of x.member x.own s.stood), 24)
+    ∷ ((used_up s x.member, 27)
+    ∷ [])))
+
+-- A change: 25 no such response stands, 26 it is plain, 23, 27.
+abbrev pub change_reasons : ChangeRequest → Story → List (Bool × ℕ)
+change_reasons x s =
+    (not (is_some (standing_of x.member x.own s.stood)), 25)
+    ∷ ((is_plain_standing (standing_of x.member x.own s.stood), 26)
+    ∷ ((above_initiating s x.price, 23)
+    ∷ ((used_up s x.member, 27)
+    ∷ [])))
+
+-- A withdrawal: 25, 26.
+abbrev pub withdraw_reasons : WithdrawRequest → Story → List (Bool × ℕ)
+withdraw_reasons x s =
+    (not (is_some (standing_of x.member x.own s.stood)), 25)
+    ∷ ((is_plain_standing (standing_of x.member x.own s.stood), 26)
+    ∷ [])
+
+-- The higher of the price and the floor, turned back, and the lesser of the size and the order's.
+abbrev pub terms_kept : Story → ℤ → ℕ → StoredTerms
+terms_kept s price size =
+    record { price = turned s.opening.order.side (int_max s.floor (turned s.opening.order.side price)); size = min size s.opening.order.size }
+
+-- What an accepted response, change or withdrawal is told; a withdrawal what was last stored.
+abbrev pub terms_due : {T : Type 0} → Option Story → Call T → Option StoredTerms
+terms_due (Some s) (Respond x) = Some (terms_kept s x.price x.size)
+terms_due (Some s) (Change x) = Some (terms_kept s x.price x.size)
+terms_due (Some s) (Withdraw x) = option_map (λ (r : Told). record { price = r.price; size = r.size }) (standing_of x.member x.own s.stood)
+terms_due _ _ = None
+
+module _ {P T F Q : Type 0} (w : World P T F Q) (number : ℕ) (p : P) (q : Q) where
+  -- The open auction as a call finds it: after its clock step.
+  abbrev pub found_open : List (Exchange T F) → Call T → Option Story
+  found_open past c = not_due (max (time_then past) (clock_time c)) (open_story w p q past)
+
+  -- An auction waits then: it did before, or the clock step has just ended one.
+  abbrev pub one_waits : List (Exchange T F) → Call T → Bool
+  one_waits past c = nat_lt 0 (waiting_then w p q past) || (is_some (open_story w p q past) && not (is_some (found_open past c)))
+
+  -- The reasons against a call that passes its input checks. An opening: 12 the room is halted, 13 an auction waits, 14 to
+  -- 16, 17 a million auctions were opened. A tick: 31 the market refuses it. A collecting: 42 another room's claim, 41 the
+  -- auction is still open, 42 it does not wait.
+  abbrev pub state_reasons : List (Exchange T F) → Call T → List (Bool × ℕ)
+  state_reasons past (Open x) =
+      (halted_then past, 12) ∷ ((one_waits past (Open x), 13) ∷ (price_reasons x.order (shown_to w p q x.order.side past) ++ (nat_le 1000000 (openings past), 17) ∷ []))
+  state_reasons past (Respond x) = by_open (found_open past (Respond x)) (respond_reasons x)
+  state_reasons past (Change x) = by_open (found_open past (Change x)) (change_reasons x)
+  state_reasons past (Withdraw x) = by_open (found_open past (Withdraw x)) (withdraw_reasons x)
+  state_reasons past (Tick t x) = (not (is_ok (w.market.answer (market_at w p q past) x)), 31) ∷ []
+  state_reasons past (Collect c n) =
+      (not (c.room == number), 42) ∷ ((is_some (going_on (story_of w p q c.auction past)), 41) ∷ ((not (waits_then w p q c.auction past), 42) ∷ []))
+  state_reasons past _ = []
+
+  -- All of them, the input checks first.
+  abbrev pub reasons : List (Exchange T F) → Call T → List (Bool × ℕ)
+  reasons past c = input_reasons c ++ state_reasons past c
+
+  pub record AnswersHaveTheirReasons (past : List (Moment P T F Q)) (m : Moment P T F Q) : Type 0 where
+    -- A call is refused exactly if there is a reason, and told the first.
+    pub reason : refused_number m.answer ≡ first_that_holds (reasons (history_of past) m.call)
+    -- What is accepted is answered in the call's kind.
+    pub kind : in_kind m.call m.answer ≡ true
+    -- A claim has the room's number and the next auction's, counted from 1.
+    pub claim : (c : ClaimNumbers) → m.answer ≡ Opened c → c ≡ record { room = number; auction = openings (history_of past) + 1 }
+    -- The stored price and size that are told.
+    pub terms : (t : StoredTerms) → m.answer ≡ Stored t → terms_due (found_open (history_of past) m.call) m.call ≡ Some t
+    -- Refusal 31 holds the fault of the market at the position to which the accepted ticks lead.
+    pub fault : (time : ℕ) (x : T) (f : F) → m.call ≡ Tick time x → input_reason m.call ≡ None → w.market.answer (market_at w p q (history_of past)) x ≡ Err f → fault_told m.answer ≡ Some f
+
+-- Of every run.
+abbrev pub AnswersHaveTheirReasonsInRuns : {P T F Q : Type 0} → World P T F Q → Type 0
+AnswersHaveTheirReasonsInRuns {P} {T} {F} {Q} w =
+    (number : ℕ) (p : P) (q : Q) (cs : List (Call T)) → Throughout (AnswersHaveTheirReasons w number p q) [] (run w number p q cs)
