@@ -9,11 +9,15 @@ use Rattle.market.specs.Turned.{turned}
 use Rattle.allocation.specs.declared.fill.FillRow.{FillRow}
 use Rattle.allocation.specs.declared.response.Class.{Class}
 use Rattle.allocation.specs.declared.response.Response.{Response}
-use Rattle.allocation.specs.FillLaws.{Told, response_told, row_told, of_response, filled_in, size_in, ProRata}
+use Rattle.allocation.specs.FillLaws.{Listed, response_told, listed_of, row_listed, of_response, filled_in, size_in, ProRata}
 use Rattle.allocation.specs.FillList.{fill_row, class_rows, shared_rows}
 use Rattle.allocation.specs.Shares.{sizes, total, shared}
 use Rattle.allocation.proofs.LevelShape.{At}
 use Rattle.allocation.proofs.ShareFacts.{Fair, fair_shared, each_same}
+
+-- what a response that stands has to be listed with
+abbrev pub listed : Side → Response → Listed
+listed side x = listed_of (response_told side x)
 
 -- what holds of each response with its share holds of each row
 rows_all : (side : Side) (P : FillRow → Type 0) (Q : Response → Type 0) (R : ℕ → ℕ → Type 0) → ((x : Response) (f : ℕ) → Q x → R x.size f → P (fill_row side x f)) → (xs : List Response) (fs : List ℕ) → AllByRecursion Q xs → AllZip R (sizes xs) fs → AllByRecursion P (class_rows side xs fs)
@@ -21,13 +25,13 @@ rows_all side P Q R g [] fs a e = tt
 rows_all side P Q R g (x ∷ xs) [] a e = tt
 rows_all side P Q R g (x ∷ xs) (f ∷ fs) (q, a) (r, e) = (g x f q r, rows_all side P Q R g xs fs a e)
 
-rows_told : (side : Side) (xs : List Response) (fs : List ℕ) → AllZip (λ s f. f ≤ s) (sizes xs) fs → map row_told (class_rows side xs fs) ≡ map (response_told side) xs
-rows_told side [] fs e = refl
-rows_told side (x ∷ xs) [] e = absurd e
-rows_told side (x ∷ xs) (f ∷ fs) (le, e) =
+rows_listed : (side : Side) (xs : List Response) (fs : List ℕ) → AllZip (λ s f. f ≤ s) (sizes xs) fs → map row_listed (class_rows side xs fs) ≡ map (listed side) xs
+rows_listed side [] fs e = refl
+rows_listed side (x ∷ xs) [] e = absurd e
+rows_listed side (x ∷ xs) (f ∷ fs) (le, e) =
     let size : f + (x.size - f) ≡ x.size = omega arith in
-    ap (λ (n : ℕ). record { member = x.member; own = x.own; price = turned side x.price; class = x.class; kind = x.kind; size = n } ∷ map row_told (class_rows side xs fs)) size
-    ∙ ap (λ (ts : List Told). response_told side x ∷ ts) (rows_told side xs fs e)
+    ap (λ (n : ℕ). record { member = x.member; own = x.own; price = turned side x.price; class = x.class; kind = x.kind; size = n } ∷ map row_listed (class_rows side xs fs)) size
+    ∙ ap (λ (ts : List Listed). listed side x ∷ ts) (rows_listed side xs fs e)
 
 rows_filled : (side : Side) (xs : List Response) (fs : List ℕ) → AllZip (λ s f. f ≤ s) (sizes xs) fs → filled_in (class_rows side xs fs) ≡ total fs
 rows_filled side [] [] e = refl
@@ -56,7 +60,7 @@ pub record ClassRows (side : Side) (price : ℤ) (c : Class) (k n : ℕ) (xs : L
   pub at_price : AllByRecursion (λ (f : FillRow). f.price ≡ turned side price) rows
   pub of_class : AllByRecursion (λ (f : FillRow). f.class ≡ c) rows
   pub of_responses : AllByRecursion (λ (f : FillRow). of_response f ≡ true) rows
-  pub told : map row_told rows ≡ map (response_told side) xs
+  pub listed_are : map row_listed rows ≡ map (listed side) xs
   pub filled_is : filled_in rows ≡ k
   pub size_is : size_in rows ≡ n
   pub near : AllByRecursion (ProRata k n) rows
@@ -68,7 +72,7 @@ class_laws side price c k xs here members some le = record {
   at_price = rows_all side (λ f. f.price ≡ turned side price) (At price c) over (λ x f q _. ap (turned side) q.0) xs fs here each;
   of_class = rows_all side (λ f. f.class ≡ c) (At price c) over (λ x f q _. q.1) xs fs here each;
   of_responses = rows_all side (λ f. of_response f ≡ true) (λ x. 0 < x.member) over (λ x f q _. lt-ltb 0 x.member q) xs fs members each;
-  told = rows_told side xs fs each;
+  listed_are = rows_listed side xs fs each;
   filled_is = filled;
   size_is = rows_size side xs fs each;
   near = rows_all side (ProRata k n) (λ x. 0 < x.size) both near_row xs fs some nears;

@@ -8,21 +8,22 @@ use Rattle.std.specs.List.Sorted.{IsPermutation}
 use Rattle.std.proofs.ByRecursion.{All-append, All-weaker}
 use Rattle.std.proofs.lemmas.List.{append-nil, append_assoc, map-append}
 use Rattle.std.proofs.lemmas.Bool.{cases_lt}
+use Rattle.std.proofs.lemmas.Simd.{map-map}
 use Rattle.market.specs.declared.side.Side.{Side}
 use Rattle.market.specs.Turned.{turned}
 use Rattle.allocation.specs.declared.fill.FillRow.{FillRow}
 use Rattle.allocation.specs.declared.order.ContraTerms.{ContraTerms}
 use Rattle.allocation.specs.declared.response.Class.TheVariants.{Customer, Other}
 use Rattle.allocation.specs.declared.response.Response.{Response}
-use Rattle.allocation.specs.FillLaws.{Told, response_told, row_told, of_response, kept, filled_in, size_in, classmates, ProRata, ContraRow, FillLaws}
+use Rattle.allocation.specs.FillLaws.{Listed, response_told, listed_of, row_listed, of_response, kept, filled_in, size_in, classmate, classmates, ProRata, ContraRow, FillLaws}
 use Rattle.allocation.specs.FillList.{level_rows, split_at, fills}
 use Rattle.allocation.specs.Levels.{Level, contra_level, flat}
 use Rattle.allocation.specs.Shares.{sizes, total}
 use Rattle.allocation.specs.Splits.{taken}
-use Rattle.allocation.proofs.ClassRows.{rows_none}
+use Rattle.allocation.proofs.ClassRows.{listed, rows_none}
 use Rattle.allocation.proofs.LevelRows.{Stands, LevelLaws, level_laws}
 use Rattle.allocation.proofs.LevelShape.{Holds, Ascending, Among}
-use Rattle.allocation.proofs.Mates.{turned_twice, mate, mate_above, mate_below, near_mates}
+use Rattle.allocation.proofs.Mates.{turned_twice, mate_above, mate_below, near_mates}
 use Rattle.allocation.proofs.RowLists.{kept_append, kept_none, sum_append, all_both, all_always, all_left, all_right, all_pairs, pairs_append}
 use Rattle.allocation.proofs.SplitFacts.{Reached, SplitLaws, split_laws}
 
@@ -79,19 +80,19 @@ module _ (side : Side) (t : ContraTerms) (floor : ℤ) (low : floor ≤ℤ contr
   pub later_ends : (l : Level) (ls : List Level) (r m : ℕ) → Ends own r (l ∷ ls) → Ends own (r - taken (split_at t l r m)) ls
   later_ends l ls r m ends = ends_next own r (taken (split_at t l r m)) l ls (level_split l r m).at_own ends
 
-  pub fills_told : (ls : List Level) (r m : ℕ) → AllByRecursion Holds ls → Standing ls → map row_told (kept of_response (fills side t ls r m)) ≡ map (response_told side) (flat ls)
-  fills_told [] r m holds st = refl
-  fills_told (l ∷ ls) r m (h, holds) st =
+  pub fills_listed : (ls : List Level) (r m : ℕ) → AllByRecursion Holds ls → Standing ls → map row_listed (kept of_response (fills side t ls r m)) ≡ map (listed side) (flat ls)
+  fills_listed [] r m holds st = refl
+  fills_listed (l ∷ ls) r m (h, holds) st =
       let A : List FillRow = first l r m in
       let B : List FillRow = later l ls r m in
-      let tell : List Response → List Told = map (response_told side) in
-      ap (map row_told) (kept_append of_response A B)
-      ∙ map-append row_told (kept of_response A) (kept of_response B)
-      ∙ ap (λ (x : List Told). x ++ map row_told (kept of_response B)) (first_laws l ls r m h st).told
-      ∙ ap (λ (x : List Told). (tell l.customers ++ tell l.others) ++ x) (fills_told ls (r - taken (split_at t l r m)) (m + (split_at t l r m).contra) holds (later_stand l ls st))
+      let tell : List Response → List Listed = map (listed side) in
+      ap (map row_listed) (kept_append of_response A B)
+      ∙ map-append row_listed (kept of_response A) (kept of_response B)
+      ∙ ap (λ (x : List Listed). x ++ map row_listed (kept of_response B)) (first_laws l ls r m h st).listed_are
+      ∙ ap (λ (x : List Listed). (tell l.customers ++ tell l.others) ++ x) (fills_listed ls (r - taken (split_at t l r m)) (m + (split_at t l r m).contra) holds (later_stand l ls st))
       ∙ append_assoc (tell l.customers) (tell l.others) (tell (flat ls))
-      ∙ ap (λ (x : List Told). tell l.customers ++ x) (sym (map-append (response_told side) l.others (flat ls)))
-      ∙ sym (map-append (response_told side) l.customers (l.others ++ flat ls))
+      ∙ ap (λ (x : List Listed). tell l.customers ++ x) (sym (map-append (listed side) l.others (flat ls)))
+      ∙ sym (map-append (listed side) l.customers (l.others ++ flat ls))
 
   pub fills_contras : (ls : List Level) (r m : ℕ) → AllByRecursion Holds ls → Standing ls → AllByRecursion (λ (f : FillRow). of_response f ≡ false → ContraRow f) (fills side t ls r m)
   fills_contras [] r m holds st = tt
@@ -215,12 +216,29 @@ module _ (side : Side) (t : ContraTerms) (floor : ℤ) (low : floor ≤ℤ contr
       over : AllByRecursion above B
       over = later_above l ls r m holds up st
 
+  -- the classmates of the first level's rows are in that level, and those of later rows behind it
+  pub mates_in_first : (l : Level) (ls : List Level) (r m : ℕ) → AllByRecursion (λ (g : FillRow). l.price <ℤ turned side g.price) (later l ls r m)
+      → (f : FillRow) → turned side f.price ≡ l.price → classmates f (first l r m ++ later l ls r m) ≡ classmates f (first l r m)
+  mates_in_first l ls r m over f a =
+      let A : List FillRow = first l r m in
+      let B : List FillRow = later l ls r m in
+      let none : classmates f B ≡ [] = kept_none (classmate f) B (All-weaker (λ (g : FillRow). l.price <ℤ turned side g.price) (λ (g : FillRow). classmate f g ≡ false) (λ g b. mate_above side f g (subst (λ (z : ℤ). z <ℤ turned side g.price) (sym a) b)) B over) in
+      kept_append (classmate f) A B ∙ ap (λ (gs : List FillRow). classmates f A ++ gs) none ∙ append-nil (classmates f A)
+
+  pub mates_in_later : (l : Level) (ls : List Level) (r m : ℕ) → AllByRecursion (λ (g : FillRow). turned side g.price ≡ l.price) (first l r m)
+      → (f : FillRow) → l.price <ℤ turned side f.price → classmates f (first l r m ++ later l ls r m) ≡ classmates f (later l ls r m)
+  mates_in_later l ls r m at f b =
+      let A : List FillRow = first l r m in
+      let B : List FillRow = later l ls r m in
+      let none : classmates f A ≡ [] = kept_none (classmate f) A (All-weaker (λ (g : FillRow). turned side g.price ≡ l.price) (λ (g : FillRow). classmate f g ≡ false) (λ g a. mate_below side f g (subst (λ (z : ℤ). z <ℤ turned side f.price) (sym a) b)) A at) in
+      kept_append (classmate f) A B ∙ ap (λ (gs : List FillRow). gs ++ classmates f B) none
+
   pub fills_pro_rata : (ls : List Level) (r m : ℕ) → AllByRecursion Holds ls → Ascending ls → Standing ls → AllByRecursion (λ (f : FillRow). of_response f ≡ true → ProRata (filled_in (classmates f (fills side t ls r m))) (size_in (classmates f (fills side t ls r m))) f) (fills side t ls r m)
   fills_pro_rata [] r m holds up st = tt
   fills_pro_rata (l ∷ ls) r m (h, holds) up st =
       All-append (Near (A ++ B)) A B
-      (all_both here (Near A) (Near (A ++ B)) (λ f a near y. near_mates f (A ++ B) (classmates f A) (mates_in_first f a) (near y)) A at (first_laws l ls r m h st).pro_rata)
-      (all_both above (Near B) (Near (A ++ B)) (λ f b near y. near_mates f (A ++ B) (classmates f B) (mates_in_later f b) (near y)) B over
+      (all_both here (Near A) (Near (A ++ B)) (λ f a near y. near_mates f (A ++ B) (classmates f A) (mates_in_first l ls r m over f a) (near y)) A at (first_laws l ls r m h st).pro_rata)
+      (all_both above (Near B) (Near (A ++ B)) (λ f b near y. near_mates f (A ++ B) (classmates f B) (mates_in_later l ls r m at f b) (near y)) B over
       (fills_pro_rata ls (r - taken (split_at t l r m)) (m + (split_at t l r m).contra) holds up.1 (later_stand l ls st)))
     where
       A : List FillRow
@@ -244,25 +262,17 @@ module _ (side : Side) (t : ContraTerms) (floor : ℤ) (low : floor ≤ℤ contr
       over : AllByRecursion above B
       over = later_above l ls r m holds up st
 
-      mates_in_first : (f : FillRow) → here f → classmates f (A ++ B) ≡ classmates f A
-      mates_in_first f a =
-          let none : classmates f B ≡ [] = kept_none (mate f) B (All-weaker above (λ (g : FillRow). mate f g ≡ false) (λ g b. mate_above side f g (subst (λ (z : ℤ). z <ℤ turned side g.price) (sym a) b)) B over) in
-          kept_append (mate f) A B ∙ ap (λ (gs : List FillRow). classmates f A ++ gs) none ∙ append-nil (classmates f A)
-
-      mates_in_later : (f : FillRow) → above f → classmates f (A ++ B) ≡ classmates f B
-      mates_in_later f b =
-          let none : classmates f A ≡ [] = kept_none (mate f) A (All-weaker here (λ (g : FillRow). mate f g ≡ false) (λ g a. mate_below side f g (subst (λ (z : ℤ). z <ℤ turned side f.price) (sym a) b)) A at) in
-          kept_append (mate f) A B ∙ ap (λ (gs : List FillRow). gs ++ classmates f B) none
-
 -- The guarantee's price is up to the initiating price; with an auto-match limit above it the contra would take nothing at
 -- its own price, and the order would not be filled.
 pub fills_lawful : (side : Side) (t : ContraTerms) (size : ℕ) (floor : ℤ) (stood : List Response) (ls : List Level)
     → AllByRecursion Holds ls → Ascending ls → Among (contra_level t.guarantee.kind t) ls → IsPermutation stood (flat ls)
     → AllByRecursion (λ (x : Response). (0 < x.member) × (0 < x.size) × (floor ≤ℤ x.price) × (x.price ≤ℤ t.initiating)) (flat ls)
     → (floor ≤ℤ contra_level t.guarantee.kind t) → (t.guarantee.price ≤ℤ t.initiating)
-    → FillLaws side size floor t.initiating stood (fills side t ls size 0)
+    → FillLaws side size floor t.initiating (map (response_told side) stood) (fills side t ls size 0)
 fills_lawful side t size floor stood ls holds up among shuffled st low high = record {
-  each_once = subst (λ (ts : List Told). IsPermutation (map (response_told side) stood) ts) (sym (fills_told side t floor low high ls size 0 holds st)) (IsPermutation-map (response_told side) stood (flat ls) shuffled);
+  each_once =
+      subst (λ (ts : List Listed). IsPermutation ts (map row_listed (kept of_response (fills side t ls size 0)))) (sym (map-map listed_of (response_told side) stood))
+      (subst (λ (ts : List Listed). IsPermutation (map (listed side) stood) ts) (sym (fills_listed side t floor low high ls size 0 holds st)) (IsPermutation-map (listed side) stood (flat ls) shuffled));
   others_contra = fills_contras side t floor low high ls size 0 holds st;
   whole_size = fills_filled side t floor low high ls size 0 holds st (inr among);
   in_range = fills_in_range side t floor low high ls size 0 holds up st (inr among);

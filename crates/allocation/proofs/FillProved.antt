@@ -1,12 +1,13 @@
 -- What the code writes is the fill list of the auction, and the fill list keeps its laws.
-use Rattle.std.proofs.Common.{◌≡◌, ℕ, ◌+◌, ◌<◌, ◌≤◌, Bool, true, not, ◌&&◌, eqb, leb, List, [], ◌∷◌, ◌++◌, length, take, drop, ℤ, ◌≤ℤ◌, Some, sym, refl, ap, ◌∙◌, arith, length-append}
+use Rattle.std.proofs.Common.{◌≡◌, ℕ, ◌+◌, ◌<◌, ◌≤◌, Bool, true, not, ◌&&◌, leb, List, [], ◌∷◌, ◌++◌, map, length, take, drop, ℤ, ◌≤ℤ◌, Some, sym, refl, ap, ◌∙◌, subst, arith, length-append}
 use borrow.Author.Differences.{ints}
 use lib.Signed.{le_z}
-use Rattle.std.proofs.lemmas.List.{take_at, drop_at}
+use Rattle.std.proofs.lemmas.List.{take_at, drop_at, length-map}
 use Rattle.std.proofs.lemmas.List.Sorted.{length_permutation}
 use Rattle.std.proofs.ByRecursion.{all_shuffled}
 use Rattle.std.proofs.lemmas.Bool.Decides.{nat_tests}
 use Rattle.std.specs.List.{AllByRecursion}
+use Rattle.std.specs.Prelude.{◌≢◌}
 use Rattle.market.specs.declared.side.Side.{Side}
 use Rattle.market.specs.Prices.{showable}
 use Rattle.allocation.specs.declared.fill.FillRow.{FillRow}
@@ -14,22 +15,31 @@ use Rattle.allocation.specs.declared.order.ContraTerms.{ContraTerms}
 use Rattle.allocation.specs.declared.order.GuaranteeKind.{GuaranteeKind}
 use Rattle.allocation.specs.declared.order.GuaranteeKind.TheVariants.{SingleStop, AutoMatchLimit}
 use Rattle.allocation.specs.declared.order.PairedOrder.{PairedOrder}
+use Rattle.allocation.specs.declared.response.Key.{Key}
 use Rattle.allocation.specs.declared.response.Response.{Response}
 use Rattle.allocation.specs.Arranged.{arranged}
-use Rattle.allocation.specs.AuctionInvariant.{from_to, stop_ok, range_ok, guarantee_ok, terms_ok, response_ok, each, arrival_free, arrivals_apart}
+use Rattle.allocation.specs.Auction.{AuctionValues, told_of, auction_fills}
+use Rattle.allocation.specs.AuctionInvariant.{from_to, stop_ok, range_ok, guarantee_ok, terms_ok, response_ok, each, arrivals_apart, owns_apart}
 use Rattle.allocation.specs.ContraLaws.{ContraLaws}
-use Rattle.allocation.specs.FillLaws.{FillLaws}
+use Rattle.allocation.specs.FillLaws.{Told, response_told, FillLaws}
 use Rattle.allocation.specs.FillList.{fills, fill_list, contra_terms, order_levels}
 use Rattle.allocation.specs.Levels.{Level, levels, contra_level, flat}
 use Rattle.allocation.specs.LevelSteps.{Sized, Sound}
+use Rattle.allocation.specs.OnlyRows.{LawfulRows}
 use Rattle.allocation.specs.OnlyShares.{OnlyTheseShares}
+use Rattle.allocation.specs.Rankings.{by_key}
+use Rattle.allocation.specs.RowLaws.{RowLaws}
 use Rattle.allocation.specs.Splits.{guaranteed}
 use Rattle.allocation.specs.Walk.{walked}
 use Rattle.allocation.proofs.AuctionKept.{both_left, both_right}
 use Rattle.allocation.proofs.ContraFacts.{fills_contra_lawful}
 use Rattle.allocation.proofs.FillFacts.{fills_lawful}
-use Rattle.allocation.proofs.LevelFacts.{holds_levels, ascending_levels, among_levels, shuffled_flat, flat_arranged, all_flat, shuffled_arranged, Apart}
+use Rattle.allocation.proofs.LevelFacts.{all_classes, ordered_classes, holds_levels, ascending_levels, among_levels, shuffled_flat, flat_arranged, all_flat, shuffled_arranged}
 use Rattle.allocation.proofs.LawsDecide.{laws_decide}
+use Rattle.allocation.proofs.RowLists.{all_both}
+use Rattle.allocation.proofs.RowOrder.{Ranked, rows_stand}
+use Rattle.allocation.proofs.RowsDecide.{rows_decide}
+use Rattle.allocation.proofs.ToldApart.{ToldOnce, are_apart, owns_are_apart, all_told_once, told_apart}
 use Rattle.allocation.proofs.LevelRows.{Stands}
 use Rattle.allocation.proofs.LevelShape.{Holds, Ascending, Among}
 use Rattle.allocation.proofs.WalkFacts.{walked_is_fills, walkable_levels, few_levels}
@@ -138,7 +148,7 @@ levels_in_order ahead order floor initiating stood in_order under stop_at e =
 
 -- the fill list keeps its laws where the range and the guarantee are in order
 pub fill_list_in_order : (ahead : Response → Response → Bool) (order : PairedOrder) (floor initiating : ℤ) (stood : List Response) → le_z floor initiating ≡ true → le_z order.guarantee.price initiating ≡ true
-    → stop_ok order.guarantee.kind floor order.guarantee.price ≡ true → each (response_ok order.size floor initiating) stood ≡ true → FillLaws order.side order.size floor initiating stood (fill_list ahead order initiating stood)
+    → stop_ok order.guarantee.kind floor order.guarantee.price ≡ true → each (response_ok order.size floor initiating) stood ≡ true → FillLaws order.side order.size floor initiating (map (response_told order.side) stood) (fill_list ahead order initiating stood)
 fill_list_in_order ahead order floor initiating stood in_order under stop_at e =
     let t : ContraTerms = contra_terms order initiating (length stood) in
     let h = levels_in_order ahead order floor initiating stood in_order under stop_at e in
@@ -154,32 +164,75 @@ contra_in_order ahead order floor initiating stood in_order under stop_at e =
 -- and no other shares keep both
 pub only_in_order : (ahead : Response → Response → Bool) (order : PairedOrder) (floor initiating : ℤ) (stood : List Response) → le_z floor initiating ≡ true → le_z order.guarantee.price initiating ≡ true
     → stop_ok order.guarantee.kind floor order.guarantee.price ≡ true → each (response_ok order.size floor initiating) stood ≡ true
-    → OnlyTheseShares order.side order.size floor order.guarantee initiating (guaranteed order.size (length stood)) stood (fill_list ahead order initiating stood)
+    → OnlyTheseShares order.side order.size floor order.guarantee initiating (guaranteed order.size (length stood)) (map (response_told order.side) stood) (fill_list ahead order initiating stood)
 only_in_order ahead order floor initiating stood in_order under stop_at e rows laws contra =
-    laws_decide order.side (contra_terms order initiating (length stood)) order.size floor stood rows (fill_list ahead order initiating stood)
+    laws_decide order.side (contra_terms order initiating (length stood)) order.size floor (map (response_told order.side) stood) rows (fill_list ahead order initiating stood)
     (levels_in_order ahead order floor initiating stood in_order under stop_at e).high laws contra
     (fill_list_in_order ahead order floor initiating stood in_order under stop_at e)
     (contra_in_order ahead order floor initiating stood in_order under stop_at e)
 
--- the fill list of an auction keeps its laws
-pub fill_list_lawful : (ahead : Response → Response → Bool) (order : PairedOrder) (floor initiating : ℤ) (stood : List Response) → Terms order floor initiating → each (response_ok order.size floor initiating) stood ≡ true
-    → FillLaws order.side order.size floor initiating stood (fill_list ahead order initiating stood)
-fill_list_lawful ahead order floor initiating stood h e = fill_list_in_order ahead order floor initiating stood h.in_order h.guaranteed_at h.stop_at e
+-- what the laws of the fill list of an auction rest on
+pub record Fillable (v : AuctionValues) : Type 0 where
+  pub in_order : le_z v.floor v.initiating ≡ true
+  pub guaranteed_at : le_z v.order.guarantee.price v.initiating ≡ true
+  pub stop_at : stop_ok v.order.guarantee.kind v.floor v.order.guarantee.price ≡ true
+  pub standing : each (response_ok v.order.size v.floor v.initiating) v.stood ≡ true
+  pub arrivals : arrivals_apart v.stood ≡ true
+  pub owns : owns_apart v.stood ≡ true
 
--- rows that keep them and those of the contra, which no other shares keep
-pub record Lawful (order : PairedOrder) (floor initiating : ℤ) (stood : List Response) (rows : List FillRow) : Type 0 where
-  pub of_fills : FillLaws order.side order.size floor initiating stood rows
-  pub of_contra : ContraLaws order.side order.guarantee initiating (guaranteed order.size (length stood)) rows
-  pub only : OnlyTheseShares order.side order.size floor order.guarantee initiating (guaranteed order.size (length stood)) stood rows
+-- what a ranking keeps: of two different arrivals exactly one is ahead, and ahead carries on
+pub record Ranks (ahead : Key → Key → Bool) : Type 0 where
+  pub one_ahead : (x y : Key) → x.arrival ≢ y.arrival → ahead x y ≡ not (ahead y x)
+  pub carries_on : (x y z : Key) → ahead x y ≡ true → ahead y z ≡ true → ahead x z ≡ true
 
--- those of the fill list of an auction do
-pub auction_lawful : (ahead : Response → Response → Bool) (order : PairedOrder) (floor initiating : ℤ) (stood : List Response) → Terms order floor initiating → each (response_ok order.size floor initiating) stood ≡ true
-    → Lawful order floor initiating stood (fill_list ahead order initiating stood)
-auction_lawful ahead order floor initiating stood h e = record {
-  of_fills = fill_list_lawful ahead order floor initiating stood h e;
-  of_contra = contra_in_order ahead order floor initiating stood h.in_order h.guaranteed_at h.stop_at e;
-  only = only_in_order ahead order floor initiating stood h.in_order h.guaranteed_at h.stop_at e;
+-- its rows stand in their order
+rows_in_order : (ahead : Key → Key → Bool) → Ranks ahead → (v : AuctionValues) → Fillable v → RowLaws v.order.side ahead (told_of v) (auction_fills (by_key ahead) v)
+rows_in_order ahead ranks v h =
+    let own : ℤ = contra_level v.order.guarantee.kind (contra_terms v.order v.initiating (length v.stood)) in
+    let shape = levels_in_order (by_key ahead) v.order v.floor v.initiating v.stood h.in_order h.guaranteed_at h.stop_at h.standing in
+    let ls : List Level = order_levels (by_key ahead) v.order v.initiating v.stood in
+    let once = all_told_once v.order.side v.stood (owns_are_apart v.stood h.owns) in
+    let told = all_classes (ToldOnce (told_of v)) ls (all_flat (by_key ahead) (ToldOnce (told_of v)) own v.stood once) in
+    let ordered = ordered_classes ahead ranks.one_ahead ranks.carries_on own v.stood (are_apart v.stood h.arrivals) in
+    rows_stand v.order.side ahead (told_of v) (contra_terms v.order v.initiating (length v.stood)) v.floor shape.low shape.high ls v.order.size 0 shape.holds shape.ascending shape.stand
+    (all_both _ _ (Ranked v.order.side ahead (told_of v)) (λ l o t. (o, t)) ls ordered told)
+
+-- the fill list of an auction keeps all laws, and no other rows do
+pub fills_are_lawful : (ahead : Key → Key → Bool) → Ranks ahead → (v : AuctionValues) → Fillable v
+    → LawfulRows v.order.side v.order.size v.floor v.order.guarantee v.initiating ahead (told_of v) (auction_fills (by_key ahead) v)
+fills_are_lawful ahead ranks v h = record {
+  fill_laws = laws;
+  contra_laws = contra;
+  row_laws = order;
+  only_shares = shares;
+  only_rows = λ fs fl fc fo. rows_decide side ahead ranks.one_ahead told (told_apart side v.stood h.arrivals h.owns) v.order.size v.floor v.initiating fs rows fl fo laws order (shares fs fl fc);
 }
+  where
+    told : List Told
+    told = told_of v
+
+    side : Side
+    side = v.order.side
+
+    rows : List FillRow
+    rows = auction_fills (by_key ahead) v
+
+    counted : length v.stood ≡ length told
+    counted = sym (length-map v.stood (response_told side))
+
+    laws : FillLaws side v.order.size v.floor v.initiating told rows
+    laws = fill_list_in_order (by_key ahead) v.order v.floor v.initiating v.stood h.in_order h.guaranteed_at h.stop_at h.standing
+
+    contra : ContraLaws side v.order.guarantee v.initiating (guaranteed v.order.size (length told)) rows
+    contra = subst (λ (n : ℕ). ContraLaws side v.order.guarantee v.initiating (guaranteed v.order.size n) rows) counted
+        (contra_in_order (by_key ahead) v.order v.floor v.initiating v.stood h.in_order h.guaranteed_at h.stop_at h.standing)
+
+    shares : OnlyTheseShares side v.order.size v.floor v.order.guarantee v.initiating (guaranteed v.order.size (length told)) told rows
+    shares = subst (λ (n : ℕ). OnlyTheseShares side v.order.size v.floor v.order.guarantee v.initiating (guaranteed v.order.size n) told rows) counted
+        (only_in_order (by_key ahead) v.order v.floor v.initiating v.stood h.in_order h.guaranteed_at h.stop_at h.standing)
+
+    order : RowLaws side ahead told rows
+    order = rows_in_order ahead ranks v h
 
 -- the front and the rest of what an accepted call wrote
 pub written_front : (fs rows new : List FillRow) (n : ℕ) → n ≡ length fs → new ≡ fs ++ drop n rows → take n new ≡ fs
@@ -189,14 +242,3 @@ pub written_past : (fs rows new : List FillRow) (n : ℕ) → n ≡ length fs �
 written_past fs rows new n e k =
     let long : length new ≡ length fs + length (drop n rows) = ap length k ∙ length-append fs (drop n rows) in
     (omega arith, ap (drop n) k ∙ drop_at fs (drop n rows) n (sym e))
-
--- arrivals that a test finds apart are apart
-apart_each : (x : Response) (xs : List Response) → arrival_free x.arrival xs ≡ true → AllByRecursion (λ (y : Response). x.arrival ≡ y.arrival → ⊥) xs
-apart_each x [] h = tt
-apart_each x (y ∷ ys) h =
-    let here = both_left (not (eqb x.arrival y.arrival)) (arrival_free x.arrival ys) h in
-    ((λ e. let z : ◌≡◌ {A = ℕ} 0 1 = grind (arith, nat_tests) in omega arith), apart_each x ys (both_right (not (eqb x.arrival y.arrival)) (arrival_free x.arrival ys) h))
-
-pub are_apart : (xs : List Response) → arrivals_apart xs ≡ true → Apart xs
-are_apart [] h = tt
-are_apart (x ∷ xs) h = (apart_each x xs (both_left (arrival_free x.arrival xs) (arrivals_apart xs) h), are_apart xs (both_right (arrival_free x.arrival xs) (arrivals_apart xs) h))

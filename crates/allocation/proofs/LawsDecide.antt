@@ -16,10 +16,9 @@ use Rattle.allocation.specs.declared.order.GuaranteeKind.{GuaranteeKind}
 use Rattle.allocation.specs.declared.order.GuaranteeKind.TheVariants.{SingleStop, AutoMatchLimit}
 use Rattle.allocation.specs.declared.response.Class.{Class}
 use Rattle.allocation.specs.declared.response.Class.TheVariants.{Customer, Other}
-use Rattle.allocation.specs.declared.response.Response.{Response}
 use Rattle.allocation.specs.Classes.{class_number}
 use Rattle.allocation.specs.ContraLaws.{of_contra, of_customer, of_other, row_price, priced_at, priced_below, priced_up_to, got, asked, GuaranteeAllows, Matched, MatchedAll, TooFewToMatch, ContraLaws}
-use Rattle.allocation.specs.FillLaws.{Told, response_told, row_told, of_response, kept, filled_in, size_in, same_price, same_class, FillLaws}
+use Rattle.allocation.specs.FillLaws.{Told, Listed, listed_of, row_listed, of_response, kept, filled_in, size_in, same_price, same_class, FillLaws}
 use Rattle.allocation.specs.Levels.{contra_level}
 use Rattle.allocation.specs.OnlyShares.{SameShares}
 use Rattle.allocation.specs.Shares.{total}
@@ -38,11 +37,11 @@ is_other : (c : Class) → same_class Other c ≡ true → c ≡ Other
 is_other Customer e = absurd (both_ways false refl e)
 is_other Other e = refl
 
-second_class : (c : Class) → class_number c ≡ 1 → c ≡ Other
+pub second_class : (c : Class) → class_number c ≡ 1 → c ≡ Other
 second_class Customer e = absurd (omega arith)
 second_class Other e = refl
 
-same_is : (z w : ℤ) → same_price z w ≡ true → w ≡ z
+pub same_is : (z w : ℤ) → same_price z w ≡ true → w ≡ z
 same_is z w h =
     let a = not-true (lt_z z w) (both_left (not (lt_z z w)) (not (lt_z w z)) h) in
     let b = not-true (lt_z w z) (both_right (not (lt_z z w)) (not (lt_z w z)) h) in
@@ -52,21 +51,21 @@ same_is z w h =
 at_is : (side : Side) (who : FillRow → Bool) (z : ℤ) (f : FillRow) → (who f && priced_at side z f) ≡ true → row_price side f ≡ z
 at_is side who z f h = same_is z (row_price side f) (both_right (who f) (priced_at side z f) h)
 
-same_row_price : (side : Side) (f g : FillRow) → row_price side f ≡ row_price side g → f.price ≡ g.price
+pub same_row_price : (side : Side) (f g : FillRow) → row_price side f ≡ row_price side g → f.price ≡ g.price
 same_row_price side f g e = sym (turned_twice side f.price) ∙ ap (turned side) e ∙ turned_twice side g.price
 
 -- what rows of a class ask for at a price is what those that stood ask for
 module _ (side : Side) (z : ℤ) (c : Class) where
-  abbrev weight : Told → ℕ
+  abbrev weight : Listed → ℕ
   weight x = cond (same_class c x.class && same_price z (turned side x.price)) x.size 0
 
   first_counts : (b : Bool) (f : FillRow) (fs : List FillRow) → total (map (λ (g : FillRow). g.filled + g.left) (cond b (f ∷ fs) fs)) ≡ cond b (f.filled + f.left) 0 + total (map (λ (g : FillRow). g.filled + g.left) fs)
   first_counts true f fs = refl
   first_counts false f fs = omega arith
 
-  asked_told : (rows : List FillRow) → asked (λ f. of_response f && same_class c f.class) (priced_at side z) rows ≡ total (map weight (map row_told (kept of_response rows)))
-  asked_told [] = refl
-  asked_told (f ∷ fs) = go (of_response f) (asked_told fs)
+  asked_listed : (rows : List FillRow) → asked (λ f. of_response f && same_class c f.class) (priced_at side z) rows ≡ total (map weight (map row_listed (kept of_response rows)))
+  asked_listed [] = refl
+  asked_listed (f ∷ fs) = go (of_response f) (asked_listed fs)
     where
       Q : List FillRow
       Q = kept (λ (g : FillRow). (of_response g && same_class c g.class) && priced_at side z g) fs
@@ -74,20 +73,20 @@ module _ (side : Side) (z : ℤ) (c : Class) where
       R : List FillRow
       R = kept of_response fs
 
-      go : (b : Bool) → size_in Q ≡ total (map weight (map row_told R)) → size_in (cond ((b && same_class c f.class) && priced_at side z f) (f ∷ Q) Q) ≡ total (map weight (map row_told (cond b (f ∷ R) R)))
+      go : (b : Bool) → size_in Q ≡ total (map weight (map row_listed R)) → size_in (cond ((b && same_class c f.class) && priced_at side z f) (f ∷ Q) Q) ≡ total (map weight (map row_listed (cond b (f ∷ R) R)))
       go true ih = first_counts (same_class c f.class && priced_at side z f) f Q ∙ ap (λ (n : ℕ). cond (same_class c f.class && priced_at side z f) (f.filled + f.left) 0 + n) ih
       go false ih = ih
 
-  as_sum : (xs : List Told) → total (map weight xs) ≡ sum_by weight xs
-  as_sum xs = is_sum_by (λ (ys : List Told). total (map weight ys)) weight refl (λ x ys. refl) xs
+  as_sum : (xs : List Listed) → total (map weight xs) ≡ sum_by weight xs
+  as_sum xs = is_sum_by (λ (ys : List Listed). total (map weight ys)) weight refl (λ x ys. refl) xs
 
-  asked_by_stood : (size : ℕ) (floor initiating : ℤ) (stood : List Response) (rows : List FillRow) → FillLaws side size floor initiating stood rows
-      → asked (λ f. of_response f && same_class c f.class) (priced_at side z) rows ≡ sum_by weight (map (response_told side) stood)
-  asked_by_stood size floor initiating stood rows laws =
-      asked_told rows ∙ as_sum (map row_told (kept of_response rows)) ∙ sum_by-IsPermutation weight (map (response_told side) stood) (map row_told (kept of_response rows)) laws.each_once
+  pub asked_by_those_told : (size : ℕ) (floor initiating : ℤ) (told : List Told) (rows : List FillRow) → FillLaws side size floor initiating told rows
+      → asked (λ f. of_response f && same_class c f.class) (priced_at side z) rows ≡ sum_by weight (map listed_of told)
+  asked_by_those_told size floor initiating told rows laws =
+      asked_listed rows ∙ as_sum (map row_listed (kept of_response rows)) ∙ sum_by-IsPermutation weight (map listed_of told) (map row_listed (kept of_response rows)) laws.each_once
 
-module _ (side : Side) (t : ContraTerms) (size : ℕ) (floor : ℤ) (stood : List Response) (rows : List FillRow)
-    (laws : FillLaws side size floor t.initiating stood rows) (contra : ContraLaws side t.guarantee t.initiating t.guaranteed rows) where
+module _ (side : Side) (t : ContraTerms) (size : ℕ) (floor : ℤ) (told : List Told) (rows : List FillRow)
+    (laws : FillLaws side size floor t.initiating told rows) (contra : ContraLaws side t.guarantee t.initiating t.guaranteed rows) where
   abbrev own : ℤ
   own = contra_level t.guarantee.kind t
 
@@ -297,10 +296,10 @@ before_is (pos zero) = omega arith
 before_is (pos (suc a)) = omega arith
 before_is (negsuc a) = omega arith
 
-module _ (side : Side) (t : ContraTerms) (size : ℕ) (floor : ℤ) (stood : List Response) (rs ss : List FillRow)
+module _ (side : Side) (t : ContraTerms) (size : ℕ) (floor : ℤ) (told : List Told) (rs ss : List FillRow)
     (high : t.guarantee.price ≤ℤ t.initiating)
-    (rl : FillLaws side size floor t.initiating stood rs) (rc : ContraLaws side t.guarantee t.initiating t.guaranteed rs)
-    (sl : FillLaws side size floor t.initiating stood ss) (sc : ContraLaws side t.guarantee t.initiating t.guaranteed ss) where
+    (rl : FillLaws side size floor t.initiating told rs) (rc : ContraLaws side t.guarantee t.initiating t.guaranteed rs)
+    (sl : FillLaws side size floor t.initiating told ss) (sc : ContraLaws side t.guarantee t.initiating t.guaranteed ss) where
   abbrev spent : List FillRow → ℤ → ℕ
   spent rows z = filled_in (kept (priced_below side z) rows)
 
@@ -318,24 +317,24 @@ module _ (side : Side) (t : ContraTerms) (size : ℕ) (floor : ℤ) (stood : Lis
       × (got of_other (priced_at side z) rs ≡ got of_other (priced_at side z) ss)
 
   same_asked : (z : ℤ) (c : Class) → asked (λ f. of_response f && same_class c f.class) (priced_at side z) rs ≡ asked (λ f. of_response f && same_class c f.class) (priced_at side z) ss
-  same_asked z c = asked_by_stood side z c size floor t.initiating stood rs rl ∙ sym (asked_by_stood side z c size floor t.initiating stood ss sl)
+  same_asked z c = asked_by_those_told side z c size floor t.initiating told rs rl ∙ sym (asked_by_those_told side z c size floor t.initiating told ss sl)
 
   same_at : (z : ℤ) → Agree z → SameAt z
   same_at z e = go (lt_z (contra_level t.guarantee.kind t) z) refl
     where
       go : (b : Bool) → lt_z (contra_level t.guarantee.kind t) z ≡ b → SameAt z
       go true h =
-          let a = none_there side t size floor stood rs rl rc z (grind (arith, ints)) in
-          let b = none_there side t size floor stood ss sl sc z (grind (arith, ints)) in
+          let a = none_there side t size floor told rs rl rc z (grind (arith, ints)) in
+          let b = none_there side t size floor told ss sl sc z (grind (arith, ints)) in
           (a.0 ∙ sym b.0, a.1 ∙ sym b.1, a.2 ∙ sym b.2)
       go false h =
           let under : z ≤ℤ contra_level t.guarantee.kind t = grind (arith, ints) in
           let a = shares_decided t z (size - spent rs z) (so_far rs z) (asked of_customer (priced_at side z) rs) (asked of_other (priced_at side z) rs)
           (got of_customer (priced_at side z) rs) (got of_contra (priced_at side z) rs) (got of_other (priced_at side z) rs) (filled_in (kept (priced_beyond side z) rs))
-          (facts side t size floor stood rs rl rc z) under high in
+          (facts side t size floor told rs rl rc z) under high in
           let b = shares_decided t z (size - spent ss z) (so_far ss z) (asked of_customer (priced_at side z) ss) (asked of_other (priced_at side z) ss)
           (got of_customer (priced_at side z) ss) (got of_contra (priced_at side z) ss) (got of_other (priced_at side z) ss) (filled_in (kept (priced_beyond side z) ss))
-          (facts side t size floor stood ss sl sc z) under high in
+          (facts side t size floor told ss sl sc z) under high in
           let same = ap (λ (n : ℕ). split t z (size - n) (so_far rs z) (asked of_customer (priced_at side z) rs) (asked of_other (priced_at side z) rs)) e.0
           ∙ ap (λ (n : ℕ). split t z (size - spent ss z) n (asked of_customer (priced_at side z) rs) (asked of_other (priced_at side z) rs)) e.1
           ∙ ap (λ (n : ℕ). split t z (size - spent ss z) (so_far ss z) n (asked of_other (priced_at side z) rs)) (same_asked z Customer)
@@ -350,9 +349,9 @@ module _ (side : Side) (t : ContraTerms) (size : ℕ) (floor : ℤ) (stood : Lis
 
   agree : (d : ℕ) (z : ℤ) → up z + down floor ≤ up floor + down z + d → Agree z
   agree zero z near = (
-    below_floor side t size floor stood rs rl rc (priced_below side z) (λ f h le. grind (arith, ints)) ∙ sym (below_floor side t size floor stood ss sl sc (priced_below side z) (λ f h le. grind (arith, ints))),
-    below_floor side t size floor stood rs rl rc (λ f. of_contra f && priced_below side z f) (λ f h le. let less = both_right (of_contra f) (priced_below side z f) h in grind (arith, ints))
-        ∙ sym (below_floor side t size floor stood ss sl sc (λ f. of_contra f && priced_below side z f) (λ f h le. let less = both_right (of_contra f) (priced_below side z f) h in grind (arith, ints))),
+    below_floor side t size floor told rs rl rc (priced_below side z) (λ f h le. grind (arith, ints)) ∙ sym (below_floor side t size floor told ss sl sc (priced_below side z) (λ f h le. grind (arith, ints))),
+    below_floor side t size floor told rs rl rc (λ f. of_contra f && priced_below side z f) (λ f h le. let less = both_right (of_contra f) (priced_below side z f) h in grind (arith, ints))
+        ∙ sym (below_floor side t size floor told ss sl sc (λ f. of_contra f && priced_below side z f) (λ f h le. let less = both_right (of_contra f) (priced_below side z f) h in grind (arith, ints))),
   )
   agree (suc d) z near =
       let y = before z in

@@ -15,8 +15,9 @@ use Rattle.allocation.specs.declared.response.Key.{Key}
 use Rattle.allocation.specs.declared.response.Response.{Response}
 use Rattle.allocation.specs.Arranged.{class_before, before, arranged}
 use Rattle.allocation.specs.Levels.{Level, put, join_as, join, empty_level, place, levels, flat}
-use Rattle.allocation.specs.Rankings.{Ordered, by_key}
+use Rattle.allocation.specs.Rankings.{AllInOrder, Ordered, by_key}
 use Rattle.allocation.proofs.LevelShape.{At, Holds, Ascending, Among}
+use Rattle.allocation.proofs.ToldApart.{NotWith}
 
 module _ (ahead : Response → Response → Bool) (x : Response) where
   pub shuffled_put : (xs : List Response) → IsPermutation (x ∷ xs) (put ahead x xs)
@@ -240,16 +241,8 @@ module _ (ahead : Response → Response → Bool) where
   pub all_flat : (P : Response → Type 0) (contra : ℤ) (xs : List Response) → AllByRecursion P xs → AllByRecursion P (flat (levels ahead contra xs))
   all_flat P contra xs a = all_shuffled P xs (flat (levels ahead contra xs)) (shuffled_flat contra xs) a
 
--- no two arrived together
-abbrev pub Apart : List Response → Type 0
-Apart [] = Unit {0}
-Apart (x ∷ xs) = AllByRecursion (λ (y : Response). x.arrival ≡ y.arrival → ⊥) xs × Apart xs
-
 abbrev BothOrdered : (Response → Response → Bool) → Level → Type 0
 BothOrdered ahead l = Ordered ahead l.customers × Ordered ahead l.others
-
-abbrev NotWith : Response → Response → Type 0
-NotWith x y = x.arrival ≡ y.arrival → ⊥
 
 -- x arrived with none that the level holds
 abbrev WithNone : Response → Level → Type 0
@@ -271,7 +264,7 @@ module _ (rank : Key → Key → Bool) (one_ahead : (x y : Key) → (x.arrival �
       ]
 
   -- where no two arrived together, each class of each level is in ranking order
-  pub ordered_classes : (contra : ℤ) (xs : List Response) → Apart xs → AllByRecursion (λ (l : Level). Ordered (by_key rank) l.customers × Ordered (by_key rank) l.others) (levels (by_key rank) contra xs)
+  pub ordered_classes : (contra : ℤ) (xs : List Response) → AllInOrder NotWith xs → AllByRecursion (λ (l : Level). Ordered (by_key rank) l.customers × Ordered (by_key rank) l.others) (levels (by_key rank) contra xs)
   ordered_classes contra [] a = ((tt, tt), tt)
   ordered_classes contra (x ∷ xs) (apart, a) =
       let ls : List Level = levels (by_key rank) contra xs in

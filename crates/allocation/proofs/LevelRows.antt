@@ -14,14 +14,14 @@ use Rattle.allocation.specs.declared.order.GuaranteeKind.TheVariants.{SingleStop
 use Rattle.allocation.specs.declared.response.Class.{Class}
 use Rattle.allocation.specs.declared.response.Class.TheVariants.{Customer, Other}
 use Rattle.allocation.specs.declared.response.Response.{Response}
-use Rattle.allocation.specs.FillLaws.{response_told, row_told, of_response, kept, filled_in, size_in, same_class, classmates, ProRata, ContraRow}
+use Rattle.allocation.specs.FillLaws.{row_listed, of_response, kept, filled_in, size_in, same_class, classmate, classmates, ProRata, ContraRow}
 use Rattle.allocation.specs.FillList.{shared_rows, contra_row, contra_rows, level_rows, split_at}
 use Rattle.allocation.specs.Levels.{Level, contra_level}
 use Rattle.allocation.specs.Shares.{sizes, total}
 use Rattle.allocation.specs.Splits.{Split, taken}
-use Rattle.allocation.proofs.ClassRows.{ClassRows, class_laws, rows_none}
+use Rattle.allocation.proofs.ClassRows.{ClassRows, listed, class_laws, rows_none}
 use Rattle.allocation.proofs.LevelShape.{At, Holds}
-use Rattle.allocation.proofs.Mates.{turned_twice, mate, mate_same, mate_contra, mate_class, near_mates}
+use Rattle.allocation.proofs.Mates.{turned_twice, mate_same, mate_contra, mate_class, near_mates}
 use Rattle.allocation.proofs.RowLists.{kept_append, kept_none, kept_all, sum_append, all_both, all_always, all_pairs}
 use Rattle.allocation.proofs.SplitFacts.{Reached, SplitLaws, split_laws}
 
@@ -64,7 +64,7 @@ own_in_range AutoMatchLimit t h = grind (arith, ints)
 
 -- rows of a level, with a split s of the r contracts that were left
 pub record LevelLaws (side : Side) (own floor initiating : ℤ) (l : Level) (r : ℕ) (s : Split) (rows : List FillRow) : Type 0 where
-  pub told : map row_told (kept of_response rows) ≡ map (response_told side) l.customers ++ map (response_told side) l.others
+  pub listed_are : map row_listed (kept of_response rows) ≡ map (listed side) l.customers ++ map (listed side) l.others
   pub contras : AllByRecursion (λ (f : FillRow). of_response f ≡ false → ContraRow f) rows
   pub filled_is : filled_in rows ≡ taken s
   pub at_price : AllByRecursion (λ (f : FillRow). f.price ≡ turned side l.price) rows
@@ -88,13 +88,13 @@ module _ (side : Side) (own floor initiating : ℤ) (l : Level) (r : ℕ) (s : S
   kept_three : (p : FillRow → Bool) (x y z : List FillRow) → kept p C ≡ x → kept p K ≡ y → kept p O ≡ z → kept p (C ++ (K ++ O)) ≡ x ++ (y ++ z)
   kept_three p x y z a b c = let one = kept_append p C (K ++ O) in let two = kept_append p K O in cc
 
-  level_told : map row_told (kept of_response (C ++ (K ++ O))) ≡ map (response_told side) l.customers ++ map (response_told side) l.others
-  level_told =
+  level_listed : map row_listed (kept of_response (C ++ (K ++ O))) ≡ map (listed side) l.customers ++ map (listed side) l.others
+  level_listed =
       let rows = kept_three of_response C [] O (kept_all of_response C cs.of_responses) (kept_none of_response K ks.of_none) (kept_all of_response O os.of_responses) in
-      let split_up = map-append row_told C O in
-      let c = cs.told in
-      let o = os.told in
-      cc (ap (map row_told) rows)
+      let split_up = map-append row_listed C O in
+      let c = cs.listed_are in
+      let o = os.listed_are in
+      cc (ap (map row_listed) rows)
 
   level_contras : AllByRecursion (λ (f : FillRow). of_response f ≡ false → ContraRow f) (C ++ (K ++ O))
   level_contras =
@@ -153,21 +153,21 @@ module _ (side : Side) (own floor initiating : ℤ) (l : Level) (r : ℕ) (s : S
       R f g = g.class ≡ Customer → 0 < g.left → f.class ≡ Other → f.filled ≡ 0
 
   -- the classmates of a customer's row are the customers' rows, and those of another response's row the others'
-  mates_of_customers : (f : FillRow) → f.class ≡ Customer → f.price ≡ turned side l.price → classmates f (C ++ (K ++ O)) ≡ C
+  pub mates_of_customers : (f : FillRow) → f.class ≡ Customer → f.price ≡ turned side l.price → classmates f (C ++ (K ++ O)) ≡ C
   mates_of_customers f c p =
-      kept_three (mate f) C [] []
-      (kept_all (mate f) C (all_both (λ g. of_response g ≡ true) (λ g. (g.class ≡ Customer) × (g.price ≡ turned side l.price)) (λ g. mate f g ≡ true) (λ g y h. mate_same f g y (c ∙ sym h.0) (p ∙ sym h.1)) C cs.of_responses
+      kept_three (classmate f) C [] []
+      (kept_all (classmate f) C (all_both (λ g. of_response g ≡ true) (λ g. (g.class ≡ Customer) × (g.price ≡ turned side l.price)) (λ g. classmate f g ≡ true) (λ g y h. mate_same f g y (c ∙ sym h.0) (p ∙ sym h.1)) C cs.of_responses
       (all_both (λ g. g.class ≡ Customer) (λ g. g.price ≡ turned side l.price) (λ g. (g.class ≡ Customer) × (g.price ≡ turned side l.price)) (λ g a b. (a, b)) C cs.of_class cs.at_price)))
-      (kept_none (mate f) K (All-weaker (λ g. of_response g ≡ false) (λ g. mate f g ≡ false) (λ g n. mate_contra f g n) K ks.of_none))
-      (kept_none (mate f) O (All-weaker (λ g. g.class ≡ Other) (λ g. mate f g ≡ false) (λ g o. mate_class f g (ap (λ (x : Class). same_class x g.class) c ∙ ap (same_class Customer) o)) O os.of_class))
+      (kept_none (classmate f) K (All-weaker (λ g. of_response g ≡ false) (λ g. classmate f g ≡ false) (λ g n. mate_contra f g n) K ks.of_none))
+      (kept_none (classmate f) O (All-weaker (λ g. g.class ≡ Other) (λ g. classmate f g ≡ false) (λ g o. mate_class f g (ap (λ (x : Class). same_class x g.class) c ∙ ap (same_class Customer) o)) O os.of_class))
       ∙ append-nil C
 
-  mates_of_others : (f : FillRow) → f.class ≡ Other → f.price ≡ turned side l.price → classmates f (C ++ (K ++ O)) ≡ O
+  pub mates_of_others : (f : FillRow) → f.class ≡ Other → f.price ≡ turned side l.price → classmates f (C ++ (K ++ O)) ≡ O
   mates_of_others f c p =
-      kept_three (mate f) [] [] O
-      (kept_none (mate f) C (All-weaker (λ g. g.class ≡ Customer) (λ g. mate f g ≡ false) (λ g o. mate_class f g (ap (λ (x : Class). same_class x g.class) c ∙ ap (same_class Other) o)) C cs.of_class))
-      (kept_none (mate f) K (All-weaker (λ g. of_response g ≡ false) (λ g. mate f g ≡ false) (λ g n. mate_contra f g n) K ks.of_none))
-      (kept_all (mate f) O (all_both (λ g. of_response g ≡ true) (λ g. (g.class ≡ Other) × (g.price ≡ turned side l.price)) (λ g. mate f g ≡ true) (λ g y h. mate_same f g y (c ∙ sym h.0) (p ∙ sym h.1)) O os.of_responses
+      kept_three (classmate f) [] [] O
+      (kept_none (classmate f) C (All-weaker (λ g. g.class ≡ Customer) (λ g. classmate f g ≡ false) (λ g o. mate_class f g (ap (λ (x : Class). same_class x g.class) c ∙ ap (same_class Other) o)) C cs.of_class))
+      (kept_none (classmate f) K (All-weaker (λ g. of_response g ≡ false) (λ g. classmate f g ≡ false) (λ g n. mate_contra f g n) K ks.of_none))
+      (kept_all (classmate f) O (all_both (λ g. of_response g ≡ true) (λ g. (g.class ≡ Other) × (g.price ≡ turned side l.price)) (λ g. classmate f g ≡ true) (λ g y h. mate_same f g y (c ∙ sym h.0) (p ∙ sym h.1)) O os.of_responses
       (all_both (λ g. g.class ≡ Other) (λ g. g.price ≡ turned side l.price) (λ g. (g.class ≡ Other) × (g.price ≡ turned side l.price)) (λ g a b. (a, b)) O os.of_class os.at_price)))
 
   level_near : AllByRecursion (λ (f : FillRow). of_response f ≡ true → ProRata (filled_in (classmates f (C ++ (K ++ O)))) (size_in (classmates f (C ++ (K ++ O)))) f) (C ++ (K ++ O))
@@ -194,10 +194,37 @@ module _ (side : Side) (own floor initiating : ℤ) (l : Level) (r : ℕ) (s : S
       given : (f : FillRow) (gs : List FillRow) (k n : ℕ) → filled_in gs ≡ k → size_in gs ≡ n → ProRata k n f → ProRata (filled_in gs) (size_in gs) f
       given f gs k n a b h = subst (λ (x : ℕ). ProRata x (size_in gs) f) (sym a) (subst (λ (x : ℕ). ProRata k x f) (sym b) h)
 
+-- the rows of a level, class by class, and how it is split
+pub record LevelClasses (side : Side) (own : ℤ) (l : Level) (r : ℕ) (s : Split) : Type 0 where
+  pub of_customers : ClassRows side l.price Customer s.customers (total (sizes l.customers)) l.customers (shared_rows side s.customers l.customers)
+  pub of_contra : ContraRows side l.price s.contra (contra_rows side l.price s.contra)
+  pub of_others : ClassRows side l.price Other s.others (total (sizes l.others)) l.others (shared_rows side s.others l.others)
+  pub split_up : SplitLaws own l.price r (total (sizes l.customers)) (total (sizes l.others)) s
+
+pub level_classes : (side : Side) (t : ContraTerms) (floor : ℤ) (l : Level) (r m : ℕ) → Holds l → AllByRecursion (Stands floor t.initiating) l.customers → AllByRecursion (Stands floor t.initiating) l.others → t.guarantee.price ≤ℤ t.initiating → LevelClasses side (contra_level t.guarantee.kind t) l r (split_at t l r m)
+level_classes side t floor l r m holds customers others high = record {
+  of_customers = class_laws side l.price Customer s.customers l.customers holds.customers_here (members l.customers customers) (some l.customers customers) (omega (arith, laws.customers_are));
+  of_contra = contra_laws side l.price s.contra;
+  of_others = class_laws side l.price Other s.others l.others holds.others_here (members l.others others) (some l.others others) laws.asked;
+  split_up = laws;
+}
+  where
+    s : Split
+    s = split_at t l r m
+
+    laws : SplitLaws (contra_level t.guarantee.kind t) l.price r (total (sizes l.customers)) (total (sizes l.others)) s
+    laws = split_laws t l.price r m (total (sizes l.customers)) (total (sizes l.others)) high
+
+    members : (xs : List Response) → AllByRecursion (Stands floor t.initiating) xs → AllByRecursion (λ (x : Response). 0 < x.member) xs
+    members xs a = All-weaker (Stands floor t.initiating) (λ (x : Response). 0 < x.member) (λ x h. h.0) xs a
+
+    some : (xs : List Response) → AllByRecursion (Stands floor t.initiating) xs → AllByRecursion (λ (x : Response). 0 < x.size) xs
+    some xs a = All-weaker (Stands floor t.initiating) (λ (x : Response). 0 < x.size) (λ x h. h.1) xs a
+
 pub level_laws : (side : Side) (t : ContraTerms) (floor : ℤ) (l : Level) (r m : ℕ) → Holds l → AllByRecursion (Stands floor t.initiating) l.customers → AllByRecursion (Stands floor t.initiating) l.others → floor ≤ℤ contra_level t.guarantee.kind t → t.guarantee.price ≤ℤ t.initiating → LevelLaws side (contra_level t.guarantee.kind t) floor t.initiating l r (split_at t l r m) (level_rows side l (split_at t l r m))
 level_laws side t floor l r m holds customers others low high =
     record {
-      told = level_told side own floor t.initiating l r s C K O cs ks os laws;
+      listed_are = level_listed side own floor t.initiating l r s C K O cs ks os laws;
       contras = level_contras side own floor t.initiating l r s C K O cs ks os laws;
       filled_is = level_filled side own floor t.initiating l r s C K O cs ks os laws;
       at_price = level_price side own floor t.initiating l r s C K O cs ks os laws;
@@ -219,8 +246,11 @@ level_laws side t floor l r m holds customers others low high =
     s : Split
     s = split_at t l r m
 
+    classes : LevelClasses side own l r s
+    classes = level_classes side t floor l r m holds customers others high
+
     laws : SplitLaws own l.price r c n s
-    laws = split_laws t l.price r m c n high
+    laws = classes.split_up
 
     C : List FillRow
     C = shared_rows side s.customers l.customers
@@ -231,20 +261,14 @@ level_laws side t floor l r m holds customers others low high =
     O : List FillRow
     O = shared_rows side s.others l.others
 
-    members : (xs : List Response) → AllByRecursion (Stands floor t.initiating) xs → AllByRecursion (λ (x : Response). 0 < x.member) xs
-    members xs a = All-weaker (Stands floor t.initiating) (λ (x : Response). 0 < x.member) (λ x h. h.0) xs a
-
-    some : (xs : List Response) → AllByRecursion (Stands floor t.initiating) xs → AllByRecursion (λ (x : Response). 0 < x.size) xs
-    some xs a = All-weaker (Stands floor t.initiating) (λ (x : Response). 0 < x.size) (λ x h. h.1) xs a
-
     cs : ClassRows side l.price Customer s.customers c l.customers C
-    cs = class_laws side l.price Customer s.customers l.customers holds.customers_here (members l.customers customers) (some l.customers customers) (omega (arith, laws.customers_are))
+    cs = classes.of_customers
 
     ks : ContraRows side l.price s.contra K
-    ks = contra_laws side l.price s.contra
+    ks = classes.of_contra
 
     os : ClassRows side l.price Other s.others n l.others O
-    os = class_laws side l.price Other s.others l.others holds.others_here (members l.others others) (some l.others others) laws.asked
+    os = classes.of_others
 
     stood : 0 < c + n → (floor ≤ℤ l.price) × (l.price ≤ℤ t.initiating)
     stood h = elim (cases_lt 0 c) [

@@ -14,6 +14,10 @@ pub mod Mates
 mod LevelRows
 mod ContraRows
 mod FillFacts
+mod InOrder
+mod RowOrder
+mod ToldApart
+mod RowsDecide
 mod ContraFacts
 mod Writes
 mod Puts

@@ -1,5 +1,5 @@
 -- Which rows are of one class at one price, and what a turned price turned once more is.
-use Rattle.std.proofs.Common.{◌≡◌, Bool, true, false, not, ◌&&◌, List, ℤ, ◌<ℤ◌, sym, refl, subst, arith}
+use Rattle.std.proofs.Common.{◌≡◌, true, false, not, ◌&&◌, List, ℤ, ◌<ℤ◌, sym, refl, subst, arith}
 use borrow.Author.Differences.{ints}
 use lib.Signed.{lt_z}
 use Rattle.std.proofs.lemmas.Bool.{and_from, and_left, and_right, not_from_true, not_from_false}
@@ -9,7 +9,7 @@ use Rattle.market.specs.Turned.{turned}
 use Rattle.allocation.specs.declared.fill.FillRow.{FillRow}
 use Rattle.allocation.specs.declared.response.Class.{Class}
 use Rattle.allocation.specs.declared.response.Class.TheVariants.{Customer, Other}
-use Rattle.allocation.specs.FillLaws.{of_response, filled_in, size_in, same_price, same_class, classmates, ProRata}
+use Rattle.allocation.specs.FillLaws.{of_response, filled_in, size_in, same_price, same_class, classmate, classmates, ProRata}
 
 pub turned_twice : (side : Side) (z : ℤ) → turned side (turned side z) ≡ z
 turned_twice Buy z = refl
@@ -30,34 +30,30 @@ price_below : (side : Side) (a b : ℤ) → turned side b <ℤ turned side a →
 price_below Buy a b h = and_right (not (lt_z a b)) (not (lt_z b a)) (not_from_true (lt_z b a) (grind (arith, ints)))
 price_below Sell a b h = and_left (not (lt_z a b)) (not (lt_z b a)) (not_from_true (lt_z a b) (grind (arith, ints)))
 
--- g is a response's row of f's class at f's price
-abbrev pub mate : FillRow → FillRow → Bool
-mate f g = of_response g && (same_class f.class g.class && same_price f.price g.price)
-
-pub mate_same : (f g : FillRow) → of_response g ≡ true → f.class ≡ g.class → f.price ≡ g.price → mate f g ≡ true
+pub mate_same : (f g : FillRow) → of_response g ≡ true → f.class ≡ g.class → f.price ≡ g.price → classmate f g ≡ true
 mate_same f g r c p =
     and_from (of_response g) (same_class f.class g.class && same_price f.price g.price) r
     (and_from (same_class f.class g.class) (same_price f.price g.price)
     (subst (λ (x : Class). same_class f.class x ≡ true) c (same_class_self f.class))
     (subst (λ (x : ℤ). same_price f.price x ≡ true) p (same_price_self f.price)))
 
-pub mate_contra : (f g : FillRow) → of_response g ≡ false → mate f g ≡ false
+pub mate_contra : (f g : FillRow) → of_response g ≡ false → classmate f g ≡ false
 mate_contra f g r = and_left (of_response g) (same_class f.class g.class && same_price f.price g.price) r
 
-pub mate_class : (f g : FillRow) → same_class f.class g.class ≡ false → mate f g ≡ false
+pub mate_class : (f g : FillRow) → same_class f.class g.class ≡ false → classmate f g ≡ false
 mate_class f g e =
     and_right (of_response g) (same_class f.class g.class && same_price f.price g.price)
     (and_left (same_class f.class g.class) (same_price f.price g.price) e)
 
-mate_price : (f g : FillRow) → same_price f.price g.price ≡ false → mate f g ≡ false
+mate_price : (f g : FillRow) → same_price f.price g.price ≡ false → classmate f g ≡ false
 mate_price f g e =
     and_right (of_response g) (same_class f.class g.class && same_price f.price g.price)
     (and_right (same_class f.class g.class) (same_price f.price g.price) e)
 
-pub mate_above : (side : Side) (f g : FillRow) → turned side f.price <ℤ turned side g.price → mate f g ≡ false
+pub mate_above : (side : Side) (f g : FillRow) → turned side f.price <ℤ turned side g.price → classmate f g ≡ false
 mate_above side f g h = mate_price f g (price_above side f.price g.price h)
 
-pub mate_below : (side : Side) (f g : FillRow) → turned side g.price <ℤ turned side f.price → mate f g ≡ false
+pub mate_below : (side : Side) (f g : FillRow) → turned side g.price <ℤ turned side f.price → classmate f g ≡ false
 mate_below side f g h = mate_price f g (price_below side f.price g.price h)
 
 -- the same classmates, the same part

@@ -18,7 +18,7 @@ abbrev pub priced_beyond : Side → ℤ → FillRow → Bool
 priced_beyond side z f = lt_z z (row_price side f)
 
 -- the first row counts if it passes
-kept_cons : {X : Type 0} (h : X → ℕ) (p : X → Bool) (x : X) (xs : List X) → total (map h (kept p (x ∷ xs))) ≡ cond (p x) (h x) 0 + total (map h (kept p xs))
+pub kept_cons : {X : Type 0} (h : X → ℕ) (p : X → Bool) (x : X) (xs : List X) → total (map h (kept p (x ∷ xs))) ≡ cond (p x) (h x) 0 + total (map h (kept p xs))
 kept_cons h p x xs = elim (p x) as (λ b. total (map h (cond b (x ∷ kept p xs) (kept p xs))) ≡ cond b (h x) 0 + total (map h (kept p xs))) [ true ↦ refl | false ↦ omega arith ]
 
 -- each row that passes one test passes one of two others
@@ -27,7 +27,7 @@ parted : {X : Type 0} (h : X → ℕ) (p q r : X → Bool) → ((x : X) (v : ℕ
 parted h p q r e [] = omega arith
 parted h p q r e (x ∷ xs) = omega (arith, kept_cons h p x xs, kept_cons h q x xs, kept_cons h r x xs, e x (h x), parted h p q r e xs)
 
-kept_alike : {X : Type 0} (p q : X → Bool) → ((x : X) → p x ≡ q x) → (xs : List X) → kept p xs ≡ kept q xs
+pub kept_alike : {X : Type 0} (p q : X → Bool) → ((x : X) → p x ≡ q x) → (xs : List X) → kept p xs ≡ kept q xs
 kept_alike p q e [] = refl
 kept_alike p q e (x ∷ xs) =
     ap (λ b. cond b (x ∷ kept p xs) (kept p xs)) (e x)

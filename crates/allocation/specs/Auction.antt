@@ -5,16 +5,15 @@ use Rattle.allocation.specs.declared.auction.Auction.{Auction}
 use Rattle.allocation.specs.declared.fill.FillRow.{FillRow}
 use Rattle.allocation.specs.declared.order.PairedOrder.{PairedOrder}
 use Rattle.allocation.specs.declared.refusal.FillRefusal.{FillRefusal}
+use Rattle.allocation.specs.declared.response.Key.{Key}
 use Rattle.allocation.specs.declared.response.Response.{Response}
 use Rattle.allocation.specs.AuctionInvariant.{terms_ok, stored_ok, response_ok, arrival_free}
-use Rattle.allocation.specs.ContraLaws.{ContraLaws}
-use Rattle.allocation.specs.FillLaws.{FillLaws, Told, response_told}
+use Rattle.allocation.specs.FillLaws.{Told, response_told}
 use Rattle.allocation.specs.FillList.{fill_list, order_levels}
 use Rattle.allocation.specs.Levels.{Level}
-use Rattle.allocation.specs.OnlyShares.{OnlyTheseShares}
+use Rattle.allocation.specs.OnlyRows.{LawfulRows}
 use Rattle.allocation.specs.Rankings.{Ordered}
 use Rattle.allocation.specs.Refusals.{fill_refusal}
-use Rattle.allocation.specs.Splits.{guaranteed}
 use Rattle.allocation.specs.Table.{standing, place_of, rewritten, without_place, any_below}
 
 -- The order with its guarantee as stored, the range, and the responses that stand; prices are turned.
@@ -27,6 +26,10 @@ pub record AuctionValues : Type 0 where
 -- The values that an auction holds.
 abbrev pub auction_values : Auction → AuctionValues
 auction_values a = record { order = a.order; floor = a.floor; initiating = a.initiating; stood = standing a.table }
+
+-- What is told of each response that stands.
+abbrev pub told_of : AuctionValues → List Told
+told_of a = map (response_told a.order.side) a.stood
 
 -- A new auction has no responses; terms that no auction can have make none.
 abbrev pub new_auction : PairedOrder → ℤ → ℤ → Option AuctionValues
@@ -48,16 +51,13 @@ fill_answer fills rows = cond (nat_lt (length rows) 129) (Err (fill_refusal 6)) 
 abbrev pub rows_after : List FillRow → List FillRow → List FillRow
 rows_after fills rows = cond (nat_lt (length rows) 129) rows (fills ++ drop (length fills) rows)
 
--- The rows that an accepted call wrote, as many as it answered, keep the laws of a fill list and of what the contra may
--- take, no other shares keep them, and the rows past them are as they were. A refused call had a list under 129 rows, and
--- wrote nothing.
-abbrev pub LawfullyFilled : AuctionValues → Result ℕ FillRefusal → List FillRow → List FillRow → Type 0
-LawfullyFilled a r before after =
-    let share : ℕ = guaranteed a.order.size (length a.stood) in
+-- The rows that an accepted call wrote, as many as it answered, keep the laws of a fill list, of what the contra may take and
+-- of the order of the rows, no other rows keep them, and the rows past them are as they were. A refused call had a list under
+-- 129 rows, and wrote nothing.
+abbrev pub LawfullyFilled : (Key → Key → Bool) → AuctionValues → Result ℕ FillRefusal → List FillRow → List FillRow → Type 0
+LawfullyFilled ahead a r before after =
     MatchResult r
-    (λ n. FillLaws a.order.side a.order.size a.floor a.initiating a.stood (take n after)
-    × ContraLaws a.order.side a.order.guarantee a.initiating share (take n after)
-    × OnlyTheseShares a.order.side a.order.size a.floor a.order.guarantee a.initiating share a.stood (take n after)
+    (λ n. LawfulRows a.order.side a.order.size a.floor a.order.guarantee a.initiating ahead (told_of a) (take n after)
     × (n ≤ length after) × (drop n after ≡ drop n before) × (129 ≤ length before))
     (λ _. (after ≡ before) × (length before < 129))
 
@@ -101,10 +101,6 @@ withdrawn_at (Some i) a = with_stood a (without_place i a.stood)
 -- The response that is withdrawn, by member and own number.
 abbrev pub withdrawn : AuctionValues → ℕ → ℕ → AuctionValues
 withdrawn a member own = withdrawn_at (place_of member own a.stood) a
-
--- What has to be told of each response that stands; its price is turned back.
-abbrev pub told_of : AuctionValues → List Told
-told_of a = map (response_told a.order.side) a.stood
 
 -- Another floor may be had if an auction can have it with the same order and initiating price, and no response stands
 -- below it.

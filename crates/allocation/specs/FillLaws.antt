@@ -13,7 +13,7 @@ use Rattle.allocation.specs.declared.response.Response.{Response}
 use Rattle.allocation.specs.Classes.{class_number}
 use Rattle.allocation.specs.Shares.{total}
 
--- What a row tells of a response besides its fill.
+-- A response as it is told: all that it is, with its price not turned.
 pub record Told : Type 0 where
   pub member : ℕ
   pub own : ℕ
@@ -21,14 +21,28 @@ pub record Told : Type 0 where
   pub class : Class
   pub kind : Kind
   pub size : ℕ
+  pub arrival : ℕ
 
--- What a response has to be listed with; its price is turned back.
+-- What is told of a response that stands; its price is turned back.
 abbrev pub response_told : Side → Response → Told
-response_told side x = record { member = x.member; own = x.own; price = turned side x.price; class = x.class; kind = x.kind; size = x.size }
+response_told side x = record { member = x.member; own = x.own; price = turned side x.price; class = x.class; kind = x.kind; size = x.size; arrival = x.arrival }
 
--- Filled and left together are the size.
-abbrev pub row_told : FillRow → Told
-row_told f = record { member = f.member; own = f.own; price = f.price; class = f.class; kind = f.kind; size = f.filled + f.left }
+-- What a row shows of a response besides its fill.
+pub record Listed : Type 0 where
+  pub member : ℕ
+  pub own : ℕ
+  pub price : ℤ
+  pub class : Class
+  pub kind : Kind
+  pub size : ℕ
+
+-- What a response has to be listed with.
+abbrev pub listed_of : Told → Listed
+listed_of x = record { member = x.member; own = x.own; price = x.price; class = x.class; kind = x.kind; size = x.size }
+
+-- What a row lists: filled and left together are the size.
+abbrev pub row_listed : FillRow → Listed
+row_listed f = record { member = f.member; own = f.own; price = f.price; class = f.class; kind = f.kind; size = f.filled + f.left }
 
 -- Rows of responses have a member; the contra's have none.
 abbrev pub of_response : FillRow → Bool
@@ -58,9 +72,13 @@ same_class Customer Other = false
 same_class Other Customer = false
 same_class Other Other = true
 
+-- The second is a row of a response of the first's class at its price.
+abbrev pub classmate : FillRow → FillRow → Bool
+classmate f g = of_response g && (same_class f.class g.class && same_price f.price g.price)
+
 -- The rows of the responses of a row's class at its price.
 abbrev pub classmates : FillRow → List FillRow → List FillRow
-classmates f fs = kept (λ (g : FillRow). of_response g && (same_class f.class g.class && same_price f.price g.price)) fs
+classmates f fs = kept (classmate f) fs
 
 -- k × size / t rounded down, or one more.
 abbrev pub ProRata : ℕ → ℕ → FillRow → Type 0
@@ -74,11 +92,12 @@ pub record ContraRow (f : FillRow) : Type 0 where
   pub some_filled : 0 < f.filled
   pub none_left : f.left ≡ 0
 
--- The order's side and size, the floor and the initiating price (turned), the responses that stood, and the rows.
-pub record FillLaws (side : Side) (size : ℕ) (floor initiating : ℤ) (stood : List Response) (rows : List FillRow) : Type 0 where
+-- The order's side and size, the floor and the initiating price (turned), the responses that stood as they are told, and the
+-- rows.
+pub record FillLaws (side : Side) (size : ℕ) (floor initiating : ℤ) (told : List Told) (rows : List FillRow) : Type 0 where
   -- The rows of responses list exactly once each response that stood: with its member, own number, price (not turned),
   -- class and kind, and filled + left is its size. So filled is at most its size.
-  pub each_once : IsPermutation (map (response_told side) stood) (map row_told (kept of_response rows))
+  pub each_once : IsPermutation (map listed_of told) (map row_listed (kept of_response rows))
   -- The other rows are the contra's.
   pub others_contra : AllByRecursion (λ f. of_response f ≡ false → ContraRow f) rows
   -- The filled of all rows total the order's size.

@@ -13,6 +13,8 @@ pub mod FillList
 pub mod FillLaws
 pub mod ContraLaws
 pub mod OnlyShares
+pub mod RowLaws
+pub mod OnlyRows
 pub mod LevelSteps
 pub mod Plans
 pub mod Walk

@@ -60,7 +60,7 @@ impl Auction {
         ensures answer { result ≡ fill_answer (auction_fills (by_key (R.Ranking.ahead ranking.now)) (auction_values self.now)) rows.old }
         ensures rows { rows.new ≡ rows_after (auction_fills (by_key (R.Ranking.ahead ranking.now)) (auction_values self.now)) rows.old }
         ensures ranked { LevelsInRankingOrder (by_key (R.Ranking.ahead ranking.now)) (auction_values self.now) }
-        ensures laws { LawfullyFilled (auction_values self.now) result rows.old rows.new }
+        ensures laws { LawfullyFilled (R.Ranking.ahead ranking.now) (auction_values self.now) result rows.old rows.new }
     {
         if rows.len() < LEAST_ROWS {
             return Err(FillRefusal::ListTooShort);

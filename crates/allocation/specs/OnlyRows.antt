@@ -1,0 +1,30 @@
+-- What the laws of a fill list, of what the contra may take, and of the order of the rows leave open together: nothing.
+use Rattle.std.specs.Prelude.{◌≡◌, ℕ, Bool, List, ℤ, length}
+use Rattle.market.specs.declared.side.Side.{Side}
+use Rattle.allocation.specs.declared.fill.FillRow.{FillRow}
+use Rattle.allocation.specs.declared.order.Guarantee.{Guarantee}
+use Rattle.allocation.specs.declared.response.Key.{Key}
+use Rattle.allocation.specs.ContraLaws.{ContraLaws}
+use Rattle.allocation.specs.FillLaws.{Told, FillLaws}
+use Rattle.allocation.specs.OnlyShares.{OnlyTheseShares}
+use Rattle.allocation.specs.RowLaws.{RowLaws}
+use Rattle.allocation.specs.Splits.{guaranteed}
+
+-- Whatever rows keep the laws, they are these.
+abbrev pub OnlyTheseRows : Side → ℕ → ℤ → Guarantee → ℤ → ℕ → (Key → Key → Bool) → List Told → List FillRow → Type 0
+OnlyTheseRows side size floor guarantee initiating guaranteed ahead told rows =
+    (fs : List FillRow) → FillLaws side size floor initiating told fs → ContraLaws side guarantee initiating guaranteed fs → RowLaws side ahead told fs → fs ≡ rows
+
+-- The order's side and size, the floor, the guarantee as stored and the initiating price (turned), the ranking, the responses
+-- that stood as they are told, and the rows. The contra's guaranteed share goes by the order's size and by how many stood.
+pub record LawfulRows (side : Side) (size : ℕ) (floor : ℤ) (guarantee : Guarantee) (initiating : ℤ) (ahead : Key → Key → Bool) (told : List Told) (rows : List FillRow) : Type 0 where
+  -- The rows keep the laws of a fill list,
+  pub fill_laws : FillLaws side size floor initiating told rows
+  -- those of what the contra may take,
+  pub contra_laws : ContraLaws side guarantee initiating (guaranteed size (length told)) rows
+  -- and those of the order of the rows;
+  pub row_laws : RowLaws side ahead told rows
+  -- no other shares keep the first two,
+  pub only_shares : OnlyTheseShares side size floor guarantee initiating (guaranteed size (length told)) told rows
+  -- and no other rows keep all three.
+  pub only_rows : OnlyTheseRows side size floor guarantee initiating (guaranteed size (length told)) ahead told rows
