@@ -3,7 +3,7 @@
 pub mod Tests
 pub mod Checked
 pub mod Sound
-mod Counting
+pub mod Counting
 mod Storing
 mod Opening
 mod Listed

@@ -1,17 +1,13 @@
 -- How contracts are shared: the rows of an accepted collecting are a lawful fill list of the auction that its history
 -- tells of.
-use Rattle.std.proofs.Common.{◌≡◌, ◌⊎◌, inl, inr, ℕ, false, List, [], length, ℤ, Some, sym, refl, ap, ◌∙◌, subst}
-use Rattle.interval.specs.Source.{WithinLimits}
-use lib.ListN.{length-map}
-use Rattle.allocation.proofs.FillProved.{fill_list_in_order, contra_in_order, only_in_order}
+use Rattle.std.proofs.Common.{◌≡◌, ◌⊎◌, inl, inr, ℕ, false, List, [], length, ℤ, Some, sym, ap, ◌∙◌, subst}
+use Rattle.allocation.proofs.FillProved.{fills_are_lawful}
 use Rattle.allocation.specs.declared.fill.FillRow.{FillRow}
 use Rattle.allocation.specs.declared.order.PairedOrder.{PairedOrder}
-use Rattle.allocation.specs.Auction.{AuctionValues, told_of}
-use Rattle.allocation.specs.ContraLaws.{ContraLaws}
-use Rattle.allocation.specs.FillLaws.{Told, response_told}
-use Rattle.allocation.specs.OnlyShares.{OnlyTheseShares}
+use Rattle.allocation.specs.Auction.{told_of, auction_fills}
+use Rattle.allocation.specs.FillLaws.{Told}
+use Rattle.allocation.specs.OnlyRows.{LawfulRows}
 use Rattle.allocation.specs.Rankings.{by_key}
-use Rattle.allocation.specs.Splits.{guaranteed}
 use Rattle.room.specs.declared.answers.ClaimNumbers.{ClaimNumbers}
 use Rattle.room.specs.declared.answers.Collection.{Collection}
 use Rattle.room.specs.Collecting.{fill_rows}
@@ -21,7 +17,8 @@ use Rattle.session.specs.declared.calls.Call.{Call}
 use Rattle.session.specs.declared.calls.Call.TheVariants.{Collect}
 use Rattle.session.specs.History.{Story, guarantee_of, is_collected}
 use Rattle.session.specs.Runs.{Answer, Collected, Moment, moment, step}
-use Rattle.session.specs.Sharing.{ToldFillLaws, SharedLawfully, CollectedLawfully, ContractsAreSharedLawfully}
+use Rattle.session.specs.Sharing.{SharedLawfully, CollectedLawfully, ContractsAreSharedLawfully}
+use Rattle.session.proofs.Ending.Apart.{Apart}
 use Rattle.session.proofs.Ending.Held.{Holds, holds_new}
 use Rattle.session.proofs.Ending.Laws.{throughout, waits_over}
 use Rattle.session.proofs.Ending.Shapes.{CollectedHere, collected_or_not, did}
@@ -31,34 +28,25 @@ use Rattle.room.proofs.Tests.{true_false}
 
 module _ {P T F Q : Type 0} (w : World P T F Q) (p : P) (q : Q) where
   -- a sound auction's fill list is lawful
-  sound_lawful : (v : AuctionValues) (e : EndedAuction) → e.values ≡ v → Sound v → ToldFillLaws v.order.side v.order.size v.order.guarantee v.floor v.initiating (told_of v) (fill_rows w e)
-  sound_lawful v e k h =
-      subst (λ (u : AuctionValues). ToldFillLaws u.order.side u.order.size u.order.guarantee u.floor u.initiating (told_of u) (fill_rows w e)) k
-      (let s = subst Sound (sym k) h in
-      let counted : length e.values.stood ≡ length (told_of e.values) = sym (length-map e.values.stood (response_told e.values.order.side)) in
-      let held = e.values in
-      let may = contra_in_order (by_key w.ahead) held.order held.floor held.initiating held.stood s.in_order s.guaranteed_at s.stop_at s.standing in
-      let only = only_in_order (by_key w.ahead) held.order held.floor held.initiating held.stood s.in_order s.guaranteed_at s.stop_at s.standing in
-      record {
-        stood = held.stood;
-        told_of_them = refl;
-        fill_laws = fill_list_in_order (by_key w.ahead) held.order held.floor held.initiating held.stood s.in_order s.guaranteed_at s.stop_at s.standing;
-        contra = subst (λ (n : ℕ). ContraLaws held.order.side held.order.guarantee held.initiating (guaranteed held.order.size n) (fill_rows w e)) counted may;
-        only = subst (λ (n : ℕ). OnlyTheseShares held.order.side held.order.size held.floor held.order.guarantee held.initiating (guaranteed held.order.size n) held.stood (fill_rows w e)) counted only;
-      })
+  sound_lawful : Terms w → (a : OpenAuction) (e : EndedAuction) → e.values ≡ a.values → Sound a.values → Apart a
+      → LawfulRows a.values.order.side a.values.order.size a.values.floor a.values.order.guarantee a.values.initiating w.ahead (told_of a.values) (fill_rows w e)
+  sound_lawful terms a e k h c =
+      subst (λ (rows : List FillRow). LawfulRows a.values.order.side a.values.order.size a.values.floor a.values.order.guarantee a.values.initiating w.ahead (told_of a.values) rows) (ap (auction_fills (by_key w.ahead)) (sym k))
+      (fills_are_lawful w.ahead (record { one_ahead = terms.one_ahead; carries_on = terms.carries_on }) a.values
+      (record { in_order = h.in_order; guaranteed_at = h.guaranteed_at; stop_at = h.stop_at; standing = h.standing; arrivals = c.arrivals; owns = c.owns }))
 
   -- and so it is of what its story tells
-  told_lawful : (f : Story) (e : EndedAuction) (was : OpenAuction) → e.values ≡ was.values → Matches f was
-      → ToldFillLaws f.opening.order.side f.opening.order.size (guarantee_of f.opening) f.floor f.opening.range.initiating f.stood (fill_rows w e)
-  told_lawful f e was k t =
+  told_lawful : Terms w → (f : Story) (e : EndedAuction) (was : OpenAuction) → e.values ≡ was.values → Apart was → Matches f was
+      → LawfulRows f.opening.order.side f.opening.order.size f.floor (guarantee_of f.opening) f.opening.range.initiating w.ahead f.stood (fill_rows w e)
+  told_lawful terms f e was k c t =
       let v = was.values in
-      let laws = sound_lawful v e k t.sound in
-      let stood = subst (λ (l : List Told). ToldFillLaws v.order.side v.order.size v.order.guarantee v.floor v.initiating l (fill_rows w e)) t.stood_is laws in
-      let initiating = subst (λ (z : ℤ). ToldFillLaws v.order.side v.order.size v.order.guarantee v.floor z f.stood (fill_rows w e)) t.initiating_is stood in
-      let floor = subst (λ (z : ℤ). ToldFillLaws v.order.side v.order.size v.order.guarantee z f.opening.range.initiating f.stood (fill_rows w e)) t.floor_is initiating in
-      subst (λ (o : PairedOrder). ToldFillLaws o.side o.size o.guarantee f.floor f.opening.range.initiating f.stood (fill_rows w e)) t.order_is floor
+      let laws = sound_lawful terms was e k t.sound c in
+      let stood = subst (λ (l : List Told). LawfulRows v.order.side v.order.size v.floor v.order.guarantee v.initiating w.ahead l (fill_rows w e)) t.stood_is laws in
+      let initiating = subst (λ (z : ℤ). LawfulRows v.order.side v.order.size v.floor v.order.guarantee z w.ahead f.stood (fill_rows w e)) t.initiating_is stood in
+      let floor = subst (λ (z : ℤ). LawfulRows v.order.side v.order.size z v.order.guarantee f.opening.range.initiating w.ahead f.stood (fill_rows w e)) t.floor_is initiating in
+      subst (λ (o : PairedOrder). LawfulRows o.side o.size f.floor o.guarantee f.opening.range.initiating w.ahead f.stood (fill_rows w e)) t.order_is floor
 
-  module _ (drawn : WithinLimits w.source) (number : ℕ) (past : List (Moment P T F Q)) (s : RoomState P Q) (c : Call T) (h : Holds w drawn number p q past s) where
+  module _ (terms : Terms w) (number : ℕ) (past : List (Moment P T F Q)) (s : RoomState P Q) (c : Call T) (h : Holds w terms.drawn_within number p q past s) where
     -- what an accepted collecting answers
     shared_by : CollectedHere w (moment w s c) ⊎ (is_collected (step w s c).1 ≡ false) → (room auction rows : ℕ) (k : Collection) (fs : List FillRow)
         → c ≡ Collect (record { room = room; auction = auction }) rows → (step w s c).1 ≡ Collected k fs → SharedLawfully w p q auction past k fs
@@ -66,7 +54,7 @@ module _ {P T F Q : Type 0} (w : World P T F Q) (p : P) (q : Q) where
         let x = d.auction in
         let is : d.claim.auction ≡ auction = ap (λ (z : ClaimNumbers). z.auction) (let same : d.claim ≡ record { room = room; auction = auction } = let j = d.call_is in cc in same) in
         let at : numbered auction s.waiting ≡ Some x = ap (λ (z : RoomState P Q). numbered auction z.waiting) (sym d.no_clock_step) ∙ ap (λ i. numbered i (moment w s c).stepped.waiting) (sym is) ∙ d.waited in
-        let over = waits_over w drawn number p q past s c h auction x at (h.lives auction) in
+        let over = waits_over w terms.drawn_within number p q past s c h auction x at (h.lives auction) in
         let y = d.answer_is in
         let wrote : fill_rows w x ≡ fs = cc in
         let told : record { count = length (fill_rows w x); cause = x.cause } ≡ k = cc in
@@ -75,7 +63,7 @@ module _ {P T F Q : Type 0} (w : World P T F Q) (p : P) (q : Q) where
           is_its_story = over.is_its_story;
           laws =
               let f = over.story in
-              subst (ToldFillLaws f.opening.order.side f.opening.order.size (guarantee_of f.opening) f.floor f.opening.range.initiating f.stood) wrote (told_lawful f x over.was over.as_it_was over.matches);
+              subst (LawfulRows f.opening.order.side f.opening.order.size f.floor (guarantee_of f.opening) f.opening.range.initiating w.ahead f.stood) wrote (told_lawful terms f x over.was over.as_it_was over.apart over.matches);
           as_many_as_told = ap length (sym wrote) ∙ ap (λ (z : Collection). z.count) told;
         }
     shared_by (inr none) room auction long k fs e a = true_false (sym (ap (λ (z : Answer F). is_collected z) a) ∙ none)
@@ -86,4 +74,4 @@ module _ {P T F Q : Type 0} (w : World P T F Q) (p : P) (q : Q) where
 -- of every run
 pub contracts_are_shared_lawfully : {P T F Q : Type 0} (w : World P T F Q) → Terms w → ContractsAreSharedLawfully w
 contracts_are_shared_lawfully w terms number p q cs =
-    throughout w terms.drawn_within number p q (CollectedLawfully w p q) (collected_lawfully w p q terms.drawn_within number) [] (new_room number p q) cs (holds_new w terms.drawn_within number p q)
+    throughout w terms.drawn_within number p q (CollectedLawfully w p q) (collected_lawfully w p q terms number) [] (new_room number p q) cs (holds_new w terms.drawn_within number p q)

@@ -1,7 +1,7 @@
 -- What a history tells: from calls and what they were answered, and from what market and source answer at the positions to
 -- which accepted ticks and accepted openings lead. A history is a list of exchanges, the newest first; nothing of a room is
 -- in it.
-use Rattle.std.specs.Prelude.{ℕ, zero, suc, ◌+◌, max, Bool, true, false, cond, not, ◌&&◌, ◌||◌, List, [], ◌∷◌, ◌++◌, map, ℤ, is_some, Some, None, Ok, Err, Option, Result, ◌==◌, int_lt, nat_le}
+use Rattle.std.specs.Prelude.{ℕ, zero, suc, ◌+◌, max, Bool, true, false, cond, not, ◌&&◌, ◌||◌, List, [], ◌∷◌, ◌++◌, map, length, ℤ, is_some, Some, None, Ok, Err, Option, Result, ◌==◌, int_lt, nat_le}
 use Rattle.std.specs.Int.{int_max}
 use Rattle.std.specs.Option.{option_map}
 use Rattle.market.specs.declared.range.TurnedQuote.{TurnedQuote}
@@ -114,34 +114,35 @@ halted_by (Halt t) before = true
 halted_by (Resume t) before = false
 halted_by _ before = before
 
--- A response as it was answered: the stored price, not turned, and the stored size.
-abbrev pub response_then : ResponseRequest → StoredTerms → Told
-response_then x t = record { member = x.member; own = x.own; price = t.price; class = x.class; kind = x.kind; size = t.size }
+-- A response as it was answered: the stored price, not turned, and the stored size; and its arrival.
+abbrev pub response_then : ResponseRequest → StoredTerms → ℕ → Told
+response_then x t arrival = record { member = x.member; own = x.own; price = t.price; class = x.class; kind = x.kind; size = t.size; arrival = arrival }
 
--- The same response with another stored price and size: it counts as last stored.
-abbrev pub restored_then : StoredTerms → Told → Told
-restored_then t r = record { member = r.member; own = r.own; price = t.price; class = r.class; kind = r.kind; size = t.size }
+-- The same response with another stored price and size: it counts as last stored, and has arrived then.
+abbrev pub restored_then : StoredTerms → ℕ → Told → Told
+restored_then t arrival r = record { member = r.member; own = r.own; price = t.price; class = r.class; kind = r.kind; size = t.size; arrival = arrival }
 
 -- The response of this member with this own number.
 abbrev pub is_own : ℕ → ℕ → Told → Bool
 is_own member own r = r.member == member && r.own == own
 
 -- The responses with that one changed.
-abbrev pub changed_then : ℕ → ℕ → StoredTerms → List Told → List Told
-changed_then member own t [] = []
-changed_then member own t (r ∷ rs) = cond (is_own member own r) (restored_then t r ∷ rs) (r ∷ changed_then member own t rs)
+abbrev pub changed_then : ℕ → ℕ → StoredTerms → ℕ → List Told → List Told
+changed_then member own t arrival [] = []
+changed_then member own t arrival (r ∷ rs) = cond (is_own member own r) (restored_then t arrival r ∷ rs) (r ∷ changed_then member own t arrival rs)
 
 -- The responses without that one.
 abbrev pub withdrawn_then : ℕ → ℕ → List Told → List Told
 withdrawn_then member own [] = []
 withdrawn_then member own (r ∷ rs) = cond (is_own member own r) rs (r ∷ withdrawn_then member own rs)
 
--- What a call that was answered with a stored price and size makes of the responses that stood.
-abbrev pub stood_after : {T : Type 0} → Call T → StoredTerms → List Told → List Told
-stood_after (Respond x) t rs = rs ++ response_then x t ∷ []
-stood_after (Change x) t rs = changed_then x.member x.own t rs
-stood_after (Withdraw x) t rs = withdrawn_then x.member x.own rs
-stood_after _ t rs = rs
+-- What a call that was answered with a stored price and size makes of the responses that stood, where this is the next
+-- arrival.
+abbrev pub stood_after : {T : Type 0} → Call T → StoredTerms → ℕ → List Told → List Told
+stood_after (Respond x) t arrival rs = rs ++ response_then x t arrival ∷ []
+stood_after (Change x) t arrival rs = changed_then x.member x.own t arrival rs
+stood_after (Withdraw x) t arrival rs = withdrawn_then x.member x.own rs
+stood_after _ t arrival rs = rs
 
 -- The members of accepted responses and changes, with that of this call.
 abbrev pub storing_after : {T : Type 0} → Call T → List ℕ → List ℕ
@@ -182,6 +183,10 @@ pub record Story : Type 0 where
   pub stood : List Told
   pub storing : List ℕ
   pub ended : Option EndCause
+
+-- An arrival is how many responses and changes the auction has accepted with the one that arrives.
+abbrev pub next_arrival : Story → ℕ
+next_arrival s = length s.storing + 1
 
 -- A new auction's floor is that of its range; nobody has responded.
 abbrev pub new_story : OpeningFacts → Story
@@ -339,7 +344,7 @@ module _ {P T F Q : Type 0} (w : World P T F Q) (p : P) (q : Q) where
 
     abbrev pub stood_told : Option StoredTerms → List Told
     stood_told None = s.stood
-    stood_told (Some t) = stood_after x.call t s.stood
+    stood_told (Some t) = stood_after x.call t (next_arrival s) s.stood
 
     -- What a call makes of an open auction. A response that ends it still stands in it; the floor of an ending tick does not
     -- count.

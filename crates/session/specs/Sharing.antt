@@ -1,14 +1,8 @@
 -- How contracts are shared: every accepted collecting of a run writes a lawful fill list of the auction as its history
 -- tells it.
-use Rattle.std.specs.Prelude.{◌≡◌, ℕ, ℤ, List, [], length, map, Some}
-use Rattle.market.specs.declared.side.Side.{Side}
+use Rattle.std.specs.Prelude.{◌≡◌, ℕ, List, [], length, Some}
 use Rattle.allocation.specs.declared.fill.FillRow.{FillRow}
-use Rattle.allocation.specs.declared.response.Response.{Response}
-use Rattle.allocation.specs.declared.order.Guarantee.{Guarantee}
-use Rattle.allocation.specs.ContraLaws.{ContraLaws}
-use Rattle.allocation.specs.FillLaws.{FillLaws, Told, response_told}
-use Rattle.allocation.specs.OnlyShares.{OnlyTheseShares}
-use Rattle.allocation.specs.Splits.{guaranteed}
+use Rattle.allocation.specs.OnlyRows.{LawfulRows}
 use Rattle.room.specs.declared.answers.Collection.{Collection}
 use Rattle.room.specs.World.{World}
 use Rattle.session.specs.declared.calls.Call.{Call}
@@ -16,23 +10,14 @@ use Rattle.session.specs.declared.calls.Call.TheVariants.{Collect}
 use Rattle.session.specs.History.{Story, story_of, guarantee_of, history_of, Throughout}
 use Rattle.session.specs.Runs.{Collected, Moment, run}
 
--- The rows keep the laws of a fill list, of responses of which just this is told, and those of what the contra may take,
--- whose guaranteed share goes by the order's size and by how many responses are told of; and no other shares keep them.
-pub record ToldFillLaws (side : Side) (size : ℕ) (guarantee : Guarantee) (floor initiating : ℤ) (told : List Told) (rows : List FillRow) : Type 0 where
-  pub stood : List Response
-  pub told_of_them : map (response_told side) stood ≡ told
-  pub fill_laws : FillLaws side size floor initiating stood rows
-  pub contra : ContraLaws side guarantee initiating (guaranteed size (length told)) rows
-  pub only : OnlyTheseShares side size floor guarantee initiating (guaranteed size (length told)) stood rows
-
 -- The rows that a collecting wrote list the responses that stood, total the order's size, lie between the auction's floor
 -- (the ending tick not counted) and its initiating price, and keep the other laws of a fill list; the contra takes what its
--- guarantee, as it was stored, lets it take; no other shares keep these laws; and the collecting wrote as many rows as it
--- told.
+-- guarantee, as it was stored, lets it take; they stand in their order, by the room's ranking and the arrivals; no other
+-- rows keep these laws; and the collecting wrote as many rows as it told.
 pub record SharedLawfully {P T F Q : Type 0} (w : World P T F Q) (p : P) (q : Q) (n : ℕ) (past : List (Moment P T F Q)) (k : Collection) (rows : List FillRow) : Type 0 where
   pub story : Story
   pub is_its_story : story_of w p q n (history_of past) ≡ Some story
-  pub laws : ToldFillLaws story.opening.order.side story.opening.order.size (guarantee_of story.opening) story.floor story.opening.range.initiating story.stood rows
+  pub laws : LawfulRows story.opening.order.side story.opening.order.size story.floor (guarantee_of story.opening) story.opening.range.initiating w.ahead story.stood rows
   pub as_many_as_told : length rows ≡ k.count
 
 abbrev pub CollectedLawfully : {P T F Q : Type 0} → World P T F Q → P → Q → List (Moment P T F Q) → Moment P T F Q → Type 0

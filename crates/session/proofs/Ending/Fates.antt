@@ -1,6 +1,6 @@
 -- What a call does to the auction that is open when it comes: it ends exactly if the call brings one of its causes, for
 -- the first of them, and otherwise stays open; either way its story then tells what the room holds.
-use Rattle.std.proofs.Common.{◌≡◌, ◌⊎◌, inl, inr, ℕ, ◌≤◌, Bool, true, false, cond, not, ◌&&◌, eqb, leb, List, [], ◌∷◌, ◌++◌, length, is_some, Some, None, Option, sym, refl, ap, ◌∙◌, subst}
+use Rattle.std.proofs.Common.{◌≡◌, ◌⊎◌, inl, inr, ℕ, ◌+◌, ◌≤◌, Bool, true, false, cond, not, ◌&&◌, eqb, leb, List, [], ◌∷◌, ◌++◌, length, is_some, Some, None, Option, sym, refl, ap, ◌∙◌, subst}
 use Rattle.std.proofs.lemmas.Bool.{and_from, and_left, and_right}
 use Rattle.market.specs.declared.range.TurnedQuote.{TurnedQuote}
 use Rattle.market.specs.Range.{turned_quote}
@@ -15,10 +15,11 @@ use Rattle.room.specs.Ticks.{shown_above, shown_below, above_response, above_sto
 use Rattle.room.specs.World.{World}
 use Rattle.session.specs.declared.calls.Call.{Call}
 use Rattle.session.specs.declared.calls.Call.TheVariants.{Tick, Halt}
-use Rattle.session.specs.History.{Exchange, Story, deadline_of, guarantee_of, opens, collects, ticked_at, another_opened, opened_number, told_terms, is_accepted, is_collected, is_same, claimed, tick_in, is_halt, plain_below, stood_after, storing_after, shown_or, is_above, is_below, stop_passed, above_one, position_then, time_then, market_at, shown_now, deadline_reached, floor_above_initiating, floor_above_response, floor_above_stop, contra_below_guarantee, plain_response_below_floor, halt_accepted, first_cause, stood_told, lived, cause_by, cause_at, exchange_of, history_of}
+use Rattle.session.specs.History.{Exchange, Story, deadline_of, guarantee_of, opens, collects, ticked_at, another_opened, opened_number, told_terms, is_accepted, is_collected, is_same, claimed, tick_in, is_halt, plain_below, stood_after, storing_after, next_arrival, shown_or, is_above, is_below, stop_passed, above_one, position_then, time_then, market_at, shown_now, deadline_reached, floor_above_initiating, floor_above_response, floor_above_stop, contra_below_guarantee, plain_response_below_floor, halt_accepted, first_cause, stood_told, lived, cause_by, cause_at, exchange_of, history_of}
 use Rattle.session.specs.Moments.{is_open, ends_at}
 use Rattle.session.specs.Reasons.{stored_by}
 use Rattle.session.specs.Runs.{Answer, Accepted, Moment}
+use Rattle.session.proofs.Ending.Apart.{Apart}
 use Rattle.session.proofs.Ending.Elsewhere.{did_elsewhere, not_opened, not_collected}
 use Rattle.session.proofs.Ending.Lives.{Stepped, kept, expired, Alive, Over, story_lives, ended_kept, ended_now, collected_kept, above_is, below_is as below_shown, stop_is, above_one_is, floor_is_now}
 use Rattle.session.proofs.Ending.Shapes.{Did, idle, opened, stored, ticks, halts, collected, Quiet, CountsThese, OpenedHere, StoredHere, CollectedHere, collected_or_not}
@@ -138,7 +139,7 @@ module _ {P T F Q : Type 0} (w : World P T F Q) (p : P) (q : Q) where
     storing_quiet : told_terms m.answer ≡ None → s_next.storing ≡ s.storing
     storing_quiet h = ap (λ (o : Option StoredTerms). cond (is_some o && not tT) (storing_after m.call s.storing) s.storing) h
 
-    stood_stored : (t : StoredTerms) → tT ≡ false → told_terms m.answer ≡ Some t → s_next.stood ≡ stood_after m.call t s.stood
+    stood_stored : (t : StoredTerms) → tT ≡ false → told_terms m.answer ≡ Some t → s_next.stood ≡ stood_after m.call t (next_arrival s) s.stood
     stood_stored t h k = ap (λ (b : Bool). cond b s.stood (stood_told w p q before x s (told_terms m.answer))) h ∙ ap (stood_told w p q before x s) k
 
     storing_stored : (t : StoredTerms) → tT ≡ false → told_terms m.answer ≡ Some t → s_next.storing ≡ storing_after m.call s.storing
@@ -164,25 +165,27 @@ module _ {P T F Q : Type 0} (w : World P T F Q) (p : P) (q : Q) where
     matches_quiet : told_terms m.answer ≡ None → (ticked_at x && not (is_some (first_cause w p q before x s))) ≡ false → Matches s_next a
     matches_quiet k f = matches_as_it_was (floor_kept f) (stood_quiet k) (storing_quiet k)
 
-    now_over : (c : EndCause) (b : OpenAuction) → opens n x ≡ false → collects n x ≡ false → ends_at n m ≡ true → first_cause w p q before x s ≡ Some c → Matches s_next b → Over w p q n (m ∷ past) (as_ended c b)
-    now_over c b o u h k t = record {
+    now_over : (c : EndCause) (b : OpenAuction) → opens n x ≡ false → collects n x ≡ false → ends_at n m ≡ true → first_cause w p q before x s ≡ Some c → Matches s_next b → Apart b → Over w p q n (m ∷ past) (as_ended c b)
+    now_over c b o u h k t y = record {
       story = s_next;
       is_its_story = story_lives w p q n past m s o live.is_its_story live.goes_on;
       was = b;
       as_it_was = refl;
       matches = t;
+      apart = y;
       cause_is = k;
       from_one = live.from_one;
       ended_once = ended_now w p q n past m h live.unended;
       uncollected = collected_kept w p q n past m u ∙ live.uncollected;
     }
 
-    still_alive : (b : OpenAuction) → opens n x ≡ false → collects n x ≡ false → ends_at n m ≡ false → first_cause w p q before x s ≡ None → length b.used ≡ length a.used → Matches s_next b → Alive w p q n (m ∷ past) b
-    still_alive b o u h k l t = record {
+    still_alive : (b : OpenAuction) → opens n x ≡ false → collects n x ≡ false → ends_at n m ≡ false → first_cause w p q before x s ≡ None → length b.used ≡ length a.used → Matches s_next b → Apart b → Alive w p q n (m ∷ past) b
+    still_alive b o u h k l t y = record {
       story = s_next;
       is_its_story = story_lives w p q n past m s o live.is_its_story live.goes_on;
       goes_on = k;
       matches = t;
+      apart = y;
       a_count_each = l ∙ live.a_count_each;
       from_one = live.from_one;
       at_least = live.at_least;
@@ -194,8 +197,8 @@ module _ {P T F Q : Type 0} (w : World P T F Q) (p : P) (q : Q) where
     -- an auction that has just ended, for this cause, waits behind the others
     ends_now : (c : EndCause) (b : OpenAuction) → is_open n m.before ≡ true → is_open n m.after ≡ false → opens n x ≡ false → collects n x ≡ false
         → eqb b.number n ≡ true → numbered n m.before.waiting ≡ None → m.after.waiting ≡ m.before.waiting ++ as_ended c b ∷ []
-        → first_cause w p q before x s ≡ Some c → Matches s_next b → Fate n past m
-    ends_now c b h k o u i z e f t =
+        → first_cause w p q before x s ≡ Some c → Matches s_next b → Apart b → Fate n past m
+    ends_now c b h k o u i z e f t y =
         let ended_here : ends_at n m ≡ true = and_from (is_open n m.before) _ h (ap not k) in
         ends (record {
           as_it_waits = as_ended c b;
@@ -203,14 +206,14 @@ module _ {P T F Q : Type 0} (w : World P T F Q) (p : P) (q : Q) where
           waits_now = ap (numbered n) e ∙ numbered_new n m.before.waiting (as_ended c b) z i;
           waits_once = ap (λ es. numbered n (without_number n es)) e ∙ once_new n m.before.waiting (as_ended c b) z i;
           shut = k;
-          over = now_over c b o u ended_here f t;
+          over = now_over c b o u ended_here f t y;
         })
 
     stays_now : (b : OpenAuction) → is_open n m.before ≡ true → m.after.current ≡ Some b → eqb b.number n ≡ true → opens n x ≡ false → collects n x ≡ false
-        → numbered n m.after.waiting ≡ None → length b.used ≡ length a.used → first_cause w p q before x s ≡ None → Matches s_next b → Fate n past m
-    stays_now b h e i o u z l f t =
+        → numbered n m.after.waiting ≡ None → length b.used ≡ length a.used → first_cause w p q before x s ≡ None → Matches s_next b → Apart b → Fate n past m
+    stays_now b h e i o u z l f t y =
         let still : is_open n m.after ≡ true = ap (is_number n) e ∙ i in
-        stays b (cause_by_story ∙ f) e i z (still_alive b o u (and_right (is_open n m.before) _ (ap not still)) f l t)
+        stays b (cause_by_story ∙ f) e i z (still_alive b o u (and_right (is_open n m.before) _ (ap not still)) f l t y)
 
     -- whether the deadline is reached
     reached_by : (t : ℕ) → m.stepped.time ≡ t → tT ≡ leb a.deadline t
@@ -246,7 +249,7 @@ module _ {P T F Q : Type 0} (w : World P T F Q) (p : P) (q : Q) where
           waits_now = rest.same_waiting ∙ now_numbered;
           waits_once = rest.still_once now_once;
           shut = rest.still_closed;
-          over = now_over Deadline a unopened uncollected ended_here caused (matches_as_it_was (floor_kept floor_stays) (stood_late reached) (storing_late reached));
+          over = now_over Deadline a unopened uncollected ended_here caused (matches_as_it_was (floor_kept floor_stays) (stood_late reached) (storing_late reached)) live.apart;
         }
 
     -- No deadline is reached: the shapes one by one.
@@ -275,7 +278,7 @@ module _ {P T F Q : Type 0} (w : World P T F Q) (p : P) (q : Q) where
           (none_of tT tA (ticked_at x) _ _ _ _ tE tH (not_yet t e c d) (ap is_some k.opens_none)
           k.ticks_none
           (and_left (is_some (told_terms m.answer)) _ (ap is_some k.stores_none)) k.halts_none)
-          (matches_quiet k.stores_none (no_tick k.ticks_none))
+          (matches_quiet k.stores_none (no_tick k.ticks_none)) live.apart
 
       -- another opening is accepted
       fate_opened : OpenedHere w m → Did w m → Fate n past m
@@ -288,7 +291,7 @@ module _ {P T F Q : Type 0} (w : World P T F Q) (p : P) (q : Q) where
           ends_now NextAuction a open_before shut unopened (not_collected w n m did none_then) i z
           (ap (λ (v : RoomState P Q). v.waiting) f ∙ ap (λ k. closed NextAuction k m.stepped.waiting) current_then ∙ ap (λ es. es ++ as_ended NextAuction a ∷ []) waiting_then)
           (next_first tT tA tB tC tD tF tE tH (not_yet t e c d) (ap (λ (k : Answer F). is_some (opened_number k)) y))
-          (matches_quiet (ap (λ (k : Answer F). told_terms k) y) (no_tick no_ticks))
+          (matches_quiet (ap (λ (k : Answer F). told_terms k) y) (no_tick no_ticks)) live.apart
 
       -- a response, a change or a withdrawal is accepted
       module _ (here : StoredHere w m) (is : here.was ≡ a) (did : Did w m) where
@@ -316,12 +319,16 @@ module _ {P T F Q : Type 0} (w : World P T F Q) (p : P) (q : Q) where
               order_is = same.same_order ∙ ap (λ (v : OpenAuction). v.values.order) is ∙ was.order_is;
               initiating_is = same.same_initiating ∙ ap (λ (v : OpenAuction). v.values.initiating) is ∙ was.initiating_is;
               floor_is = same.same_floor ∙ ap (λ (v : OpenAuction). v.values.floor) is ∙ was.floor_is ∙ sym (floor_kept (no_tick quiet_tick));
-              stood_is = here.stood_is ∙ ap (λ (v : OpenAuction). stood_after m.call here.terms (told_of v.values)) is ∙ ap (stood_after m.call here.terms) was.stood_is ∙ sym (stood_stored here.terms not_late told_so);
+              stood_is = here.stood_is ∙ ap (λ (v : OpenAuction). stood_after m.call here.terms (v.arrivals + 1) (told_of v.values)) is
+                  ∙ ap (λ k. stood_after m.call here.terms (k + 1) (told_of a.values)) was.arrivals_is ∙ ap (stood_after m.call here.terms (next_arrival s)) was.stood_is ∙ sym (stood_stored here.terms not_late told_so);
               deadline_is = same.same_deadline ∙ ap (λ (v : OpenAuction). v.deadline) is ∙ was.deadline_is;
               arrivals_is = counts_now.all ∙ ap length (sym storing);
               used_is = λ k h l. counts_now.of_each k h l ∙ ap (stored_by k) (sym storing);
               sound = here.sound (subst (λ (v : OpenAuction). Sound v.values) (sym is) was.sound);
             }
+
+        apart_now : Apart b
+        apart_now = here.apart (subst Apart (sym is) live.apart)
 
         below_is : tE ≡ plain_below here.was.values.order.side here.was.values.floor m.call
         below_is =
@@ -347,13 +354,13 @@ module _ {P T F Q : Type 0} (w : World P T F Q) (p : P) (q : Q) where
             (ap (λ (v : RoomState P Q). v.waiting) f ∙ ap (λ es. es ++ as_ended PlainBelowFloor b ∷ []) waiting_then)
             (plain_first tT tA (ticked_at x) _ _ _ _ tE tH (not_yet t e c d) not_opening
             quiet_tick (below_is ∙ h))
-            matches_stored
+            matches_stored apart_now
         fate_stored false h f =
             stays_now b open_before (ap (λ (v : RoomState P Q). v.current) f) number_is (not_opened w n m did o) (not_collected w n m did none_then)
             (ap (λ (v : RoomState P Q). numbered n v.waiting) f ∙ none_then) (here.same.as_many_counts ∙ ap (λ (v : OpenAuction). length v.used) is)
             (none_of tT tA (ticked_at x) _ _ _ _ tE tH (not_yet t e c d) not_opening
             quiet_tick (below_is ∙ h) not_halting)
-            matches_stored
+            matches_stored apart_now
 
       -- a tick is accepted
       module _ (g : ℕ) (tick : T) (j : m.call ≡ Tick g tick) (y : m.answer ≡ Accepted) (did : Did w m) where
@@ -433,12 +440,12 @@ module _ {P T F Q : Type 0} (w : World P T F Q) (p : P) (q : Q) where
             ends_now h a open_before shut (not_opened w n m did o) (not_collected w n m did none_then) i z
             (ap (λ (v : RoomState P Q). v.waiting) f ∙ ap (λ v. closed h v m.stepped.waiting) current_then ∙ ap (λ es. es ++ as_ended h a ∷ []) waiting_then)
             caused
-            (matches_quiet told_none (and_right (ticked_at x) _ (ap (λ (v : Option EndCause). not (is_some v)) caused)))
+            (matches_quiet told_none (and_right (ticked_at x) _ (ap (λ (v : Option EndCause). not (is_some v)) caused))) live.apart
         fate_ticked None k f =
             let here : m.after.current ≡ Some refloored = ap (λ (v : RoomState P Q). v.current) f in
             stays_now refloored open_before here i (not_opened w n m did o) (not_collected w n m did none_then)
             (ap (λ (v : RoomState P Q). numbered n v.waiting) f ∙ none_then) refl (cause_is ∙ k)
-            (matches_refloored k)
+            (matches_refloored k) (record { arrived = live.apart.arrived; arrivals = live.apart.arrivals; owns = live.apart.owns })
 
       -- a halt is accepted
       fate_halted : (g : ℕ) → m.call ≡ Halt g → m.answer ≡ Accepted → m.after ≡ with_halted true (ended Halted m.stepped) → Did w m → Fate n past m
@@ -451,7 +458,7 @@ module _ {P T F Q : Type 0} (w : World P T F Q) (p : P) (q : Q) where
           no_ticks
           (ap (λ (k : Answer F). is_some (told_terms k) && plain_below s.opening.order.side s.floor m.call) y)
           (ap (λ (k : Answer F). is_accepted k && is_halt m.call) y ∙ ap (λ (k : Call T). is_halt k) j))
-          (matches_quiet (ap (λ (k : Answer F). told_terms k) y) (no_tick no_ticks))
+          (matches_quiet (ap (λ (k : Answer F). told_terms k) y) (no_tick no_ticks)) live.apart
 
       -- another auction is collected
       fate_collected : CollectedHere w m → Did w m → Fate n past m
@@ -468,7 +475,7 @@ module _ {P T F Q : Type 0} (w : World P T F Q) (p : P) (q : Q) where
           no_ticks
           (ap (λ (v : Answer F). is_some (told_terms v) && plain_below s.opening.order.side s.floor m.call) y)
           (ap (λ (v : Answer F). is_accepted v && is_halt m.call) y))
-          (matches_quiet (ap (λ (v : Answer F). told_terms v) y) (no_tick no_ticks))
+          (matches_quiet (ap (λ (v : Answer F). told_terms v) y) (no_tick no_ticks)) live.apart
 
       same_auction : (b : OpenAuction) → m.stepped.current ≡ Some b → b ≡ a
       same_auction b h = let g = current_then in cc

@@ -163,6 +163,7 @@ module _ {P T F Q : Type 0} (w : World P T F Q) (drawn : WithinLimits w.source) 
           used_is = λ member low high. none_used_yet member high;
           sound = new_sound order d.range d.sized (permitted_ordered order.side order.limit (w.market.shows m.stepped.position) d.range d.permitted_then) d.guaranteed;
         };
+        apart = record { arrived = refl; arrivals = refl; owns = refl };
         a_count_each = refl;
         from_one = let is = number_is in omega arith;
         at_least = (drawn (source_at w p q before)).0;

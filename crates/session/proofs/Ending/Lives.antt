@@ -23,6 +23,7 @@ use Rattle.session.specs.History.{Story, is_above, is_below, shown_or, stop_pass
 use Rattle.session.specs.Moments.{is_open, ends_at, times_ended}
 use Rattle.session.specs.Runs.{Moment, clock_stepped, given_time, input_refusal}
 use Rattle.room.proofs.Tests.{true_false}
+use Rattle.session.proofs.Ending.Apart.{Apart}
 use Rattle.session.proofs.Ending.Waiting.{Once}
 use Rattle.session.proofs.Inputs.{fails_same}
 use Rattle.session.proofs.Linked.{Matches}
@@ -126,6 +127,7 @@ module _ {P T F Q : Type 0} (w : World P T F Q) (p : P) (q : Q) where
     pub is_its_story : story_of w p q n (history_of past) ≡ Some story
     pub goes_on : story.ended ≡ None
     pub matches : Matches story a
+    pub apart : Apart a
     pub a_count_each : length a.used ≡ 16
     pub from_one : 1 ≤ n
     pub at_least : 100 ≤ story.opening.interval
@@ -140,6 +142,7 @@ module _ {P T F Q : Type 0} (w : World P T F Q) (p : P) (q : Q) where
     pub was : OpenAuction
     pub as_it_was : e.values ≡ was.values
     pub matches : Matches story was
+    pub apart : Apart was
     pub cause_is : story.ended ≡ Some e.cause
     pub from_one : 1 ≤ n
     pub ended_once : times_ended n past ≡ 1
@@ -204,6 +207,7 @@ module _ {P T F Q : Type 0} (w : World P T F Q) (p : P) (q : Q) where
       was = v.was;
       as_it_was = v.as_it_was;
       matches = v.matches;
+      apart = v.apart;
       cause_is = v.cause_is;
       from_one = v.from_one;
       ended_once = ended_kept (and_left (is_open n m.before) (not (is_open n m.after)) h) ∙ v.ended_once;

@@ -39,6 +39,7 @@ use Rattle.session.specs.History.{opened_number, told_terms, is_accepted, is_col
 use Rattle.session.specs.Reasons.{stored_by}
 use Rattle.session.specs.Runs.{Answer, Opened, Stored, Accepted, Looked, Collected, Refused, Moment, answered, answering, clock_stepped, moment}
 use Rattle.session.proofs.Choices.{cond_through}
+use Rattle.session.proofs.Ending.Apart.{Apart, apart_response, apart_change, apart_withdrawal}
 use Rattle.session.proofs.Ending.Lives.{plain_is, unstepped}
 use Rattle.room.proofs.Checked.{TermsInside, opening_sized, response_inside, change_inside}
 use Rattle.room.proofs.Sound.{Sound, each_push, each_changed, each_without, stood_sound, stored_may_stand}
@@ -99,8 +100,9 @@ module _ {P T F Q : Type 0} (w : World P T F Q) where
     pub answer_is : m.answer ≡ Stored terms
     pub claims_none : claimed m.call ≡ None
     pub same : SameButResponses was now
-    pub stood_is : told_of now.values ≡ stood_after m.call terms (told_of was.values)
+    pub stood_is : told_of now.values ≡ stood_after m.call terms (was.arrivals + 1) (told_of was.values)
     pub sound : Sound was.values → Sound now.values
+    pub apart : Apart was → Apart now
     pub counts : length was.used ≡ 16 → (ms : List ℕ) → CountsThese ms was → CountsThese (storing_after m.call ms) now
     pub after_is : m.after ≡ cond (plain_below was.values.order.side was.values.floor m.call) (ended PlainBelowFloor (with_current now m.stepped)) (with_current now m.stepped)
 
@@ -220,7 +222,7 @@ module _ {P T F Q : Type 0} (w : World P T F Q) where
 
   -- Responses. The table as told, with one changed, one withdrawn.
   told_changed : (side : Side) (m o size : ℕ) (z : ℤ) (n : ℕ) (xs : List Response)
-      → map (response_told side) (own_changed m o size z n xs) ≡ changed_then m o (record { price = turned side z; size = size }) (map (response_told side) xs)
+      → map (response_told side) (own_changed m o size z n xs) ≡ changed_then m o (record { price = turned side z; size = size }) n (map (response_told side) xs)
   told_changed side m o size z n [] = refl
   told_changed side m o size z n (x ∷ xs) =
       cond_through (map (response_told side)) (is_of m o x) (restored size z n x ∷ xs) (x ∷ own_changed m o size z n xs)
@@ -255,15 +257,20 @@ module _ {P T F Q : Type 0} (w : World P T F Q) where
       let before = c.all in
       record { all = omega arith; of_each = λ k h g. more_of (eqb member k) member k a.used ms refl i l h (c.of_each member low high) (c.of_each k h g) }
 
-  -- an accepted response found the auction open, and is not above the initiating price
-  responding_ok : (c : Option OpenAuction) (x : ResponseRequest) (a : OpenAuction) → responding_to {F = F} c x ≡ Ok a → (c ≡ Some a) × (lt_z a.values.initiating (turned_in a x.price) ≡ false)
+  -- an accepted response found the auction open, is not above the initiating price, and has an own number that is free
+  responding_ok : (c : Option OpenAuction) (x : ResponseRequest) (a : OpenAuction) → responding_to {F = F} c x ≡ Ok a
+      → (c ≡ Some a) × (lt_z a.values.initiating (turned_in a x.price) ≡ false) × (is_some (own_response x.member x.own a.values.stood) ≡ false)
   responding_ok None x a h = ok_err a _ (sym h)
   responding_ok (Some b) x a h =
       let past = unless_ok (side_checked {F = F} b x.side (above_checked b x.price (in_use_checked b x.member x.own (used_checked b x.member None)))) (Ok b) a h in
       let same : b ≡ a = let e = past.1 in cc in
       let side = refuse_none {F = F} _ 22 (above_checked b x.price (in_use_checked b x.member x.own (used_checked b x.member None))) past.0 in
       let above = refuse_none {F = F} (lt_z b.values.initiating (turned_in b x.price)) 23 (in_use_checked b x.member x.own (used_checked b x.member None)) side.1 in
-      (ap Some same, subst (λ (z : OpenAuction). lt_z z.values.initiating (turned_in z x.price) ≡ false) same above.0)
+      let free = refuse_none {F = F} (is_some (own_response x.member x.own b.values.stood)) 24 (used_checked b x.member None) above.1 in (
+        ap Some same,
+        subst (λ (z : OpenAuction). lt_z z.values.initiating (turned_in z x.price) ≡ false) same above.0,
+        subst (λ (z : OpenAuction). is_some (own_response x.member x.own z.values.stood) ≡ false) same free.0,
+      )
 
   -- a stored response may stand
   response_sound : (a : OpenAuction) (x : ResponseRequest) → TermsInside F x.size x.member x.own → lt_z a.values.initiating (turned_in a x.price) ≡ false → Sound a.values → Sound (with_response a x).values
@@ -291,6 +298,7 @@ module _ {P T F Q : Type 0} (w : World P T F Q) where
         same = same_but a (with_response a x) refl refl refl refl refl (length-set a.used _ _);
         stood_is = map-append (response_told a.values.order.side) a.values.stood (as_stored a x ∷ []);
         sound = response_sound a x i ok.1;
+        apart = apart_response a x ok.2;
         counts = counts_more a x.member (a.values.stood ++ as_stored a x ∷ []) i.member_inside;
         after_is = ap (λ (b : Bool). cond b (ended PlainBelowFloor (with_current (with_response a x) u)) (with_current (with_response a x) u)) (sym (plain_is x.kind (lt_z (turned a.values.order.side x.price) a.values.floor)));
       })
@@ -335,6 +343,7 @@ module _ {P T F Q : Type 0} (w : World P T F Q) where
         same = same_but a (with_change a x) refl refl refl refl refl (length-set a.used _ _);
         stood_is = told_changed a.values.order.side x.member x.own (stored_size a x.size) (stored_price a x.price) (a.arrivals + 1) a.values.stood;
         sound = change_sound a x i ok.1;
+        apart = apart_change a x;
         counts = counts_more a x.member changed i.member_inside;
         after_is = refl;
       })
@@ -371,6 +380,7 @@ module _ {P T F Q : Type 0} (w : World P T F Q) where
         same = same_but a (with_withdrawal a x) refl refl refl refl refl refl;
         stood_is = told_withdrawn a.values.order.side x.member x.own a.values.stood;
         sound = λ h. stood_sound a.values _ h (each_without x.member x.own (response_ok a.values.order.size a.values.floor a.values.initiating) a.values.stood h.standing);
+        apart = apart_withdrawal a x;
         counts = λ l ms c. record { all = c.all; of_each = c.of_each };
         after_is = refl;
       })
