@@ -24,7 +24,7 @@ module _ (F : Type 0) where
   told = option_map refusal_number
 
   -- a check that refuses is told by its number
-  told_check : (b c : Bool) (n : ℕ) (o : Option (Refusal F)) (k : Option ℕ) → refusal_number {F = F} (refusal n) ≡ n → b ≡ c → told o ≡ k → told (refuse b n o) ≡ cond c (Some n) k
+  pub told_check : (b c : Bool) (n : ℕ) (o : Option (Refusal F)) (k : Option ℕ) → refusal_number {F = F} (refusal n) ≡ n → b ≡ c → told o ≡ k → told (refuse b n o) ≡ cond c (Some n) k
   told_check true c n o k e h g = ap Some e ∙ ap (λ (x : Bool). cond x (Some n) k) h
   told_check false c n o k e h g = g ∙ ap (λ (x : Bool). cond x (Some n) k) h
 

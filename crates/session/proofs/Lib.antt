@@ -1,10 +1,11 @@
--- The laws over whole runs: what a member may learn (Learning), when an auction ends (Ending), how contracts are shared
--- (Sharing), and all of them (RunLaws).
+-- The laws over whole runs: what a member may learn (Learning), what looks tell (Looking), when an auction ends (Ending),
+-- how contracts are shared (Sharing), why calls are answered as they are (Reasons), and all of them (RunLaws).
 pub mod Learning
 pub mod Ending
 mod Inputs
 mod Linked
 pub mod Looking
+pub mod Reasons
 pub mod Sharing
 pub mod RunLaws
 mod Choices

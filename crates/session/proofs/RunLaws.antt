@@ -8,6 +8,7 @@ use Rattle.session.proofs.Ending.Laws.{auctions_end_as_ruled}
 use Rattle.session.proofs.Learning.Learned.{member_sees_the_same}
 use Rattle.session.proofs.Learning.LearnedInSessions.{member_sees_the_same_in_sessions}
 use Rattle.session.proofs.Looking.{looks_tell_the_history}
+use Rattle.session.proofs.Reasons.{answers_have_their_reasons_in_runs}
 use Rattle.session.proofs.SessionRuns.{answers_of_moments}
 use Rattle.session.proofs.Sharing.{contracts_are_shared_lawfully}
 
@@ -18,6 +19,7 @@ run_laws w terms = record {
   looks = looks_tell_the_history w terms;
   ending = auctions_end_as_ruled w terms;
   sharing = contracts_are_shared_lawfully w terms;
+  reasons = answers_have_their_reasons_in_runs w terms;
 }
 
 -- and so of each
@@ -33,6 +35,7 @@ laws_of_run w terms number p q cs =
       not_vanished = ends.3;
       for_its_causes = ends.4;
       shared_lawfully = contracts_are_shared_lawfully w terms number p q cs;
+      reasons = answers_have_their_reasons_in_runs w terms number p q cs;
     }
 
 -- and of each session

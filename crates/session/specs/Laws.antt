@@ -7,6 +7,7 @@ use Rattle.session.specs.Ending.{EndedWithinASecond, BusinessAfterTheClockStep, 
 use Rattle.session.specs.History.{Throughout}
 use Rattle.session.specs.Looking.{LooksTellTheHistory, LooksTellTheHistoryInRuns}
 use Rattle.session.specs.Learning.{AllAlike, opens_here, ends_here, seen_by, MemberSeesTheSame}
+use Rattle.session.specs.Reasons.{AnswersHaveTheirReasons, AnswersHaveTheirReasonsInRuns}
 use Rattle.session.specs.Runs.{Moment, run}
 use Rattle.session.specs.SessionLearning.{ShownTheSame, MemberSeesTheSameInSessions, opens_if_made, ends_if_made}
 use Rattle.session.specs.Sessions.{Session, session_answers, session_moments}
@@ -18,6 +19,7 @@ pub record RunLaws {P T F Q : Type 0} (w : World P T F Q) : Type 0 where
   pub looks : LooksTellTheHistoryInRuns w
   pub ending : AuctionsEndAsRuled w
   pub sharing : ContractsAreSharedLawfully w
+  pub reasons : AnswersHaveTheirReasonsInRuns w
 
 -- The laws of one run: of these calls on a room made of this number and these positions.
 pub record LawsOfRun {P T F Q : Type 0} (w : World P T F Q) (number : ℕ) (p : P) (q : Q) (cs : List (Call T)) : Type 0 where
@@ -37,6 +39,8 @@ pub record LawsOfRun {P T F Q : Type 0} (w : World P T F Q) (number : ℕ) (p : 
   pub for_its_causes : Throughout (EndedForItsCauses w number p q) [] (run w number p q cs)
   -- How contracts are shared.
   pub shared_lawfully : Throughout (CollectedLawfully w p q) [] (run w number p q cs)
+  -- Why calls are accepted and refused, and what they are told.
+  pub reasons : Throughout (AnswersHaveTheirReasons w number p q) [] (run w number p q cs)
 
 -- The laws of one session: of these calls from it on, with those that are not made.
 pub record LawsOfSession {P T F Q : Type 0} (w : World P T F Q) (s : Session P Q) (cs : List (Call T)) : Type 0 where

@@ -1,6 +1,6 @@
 -- Why a call is accepted or refused, and what it is told, from the calls and the answers before it. Of the reasons against a
 -- call the first that holds is told, by its number; where none holds it is accepted.
-use Rattle.std.specs.Prelude.{◌≡◌, ℕ, ◌+◌, max, min, Bool, true, false, cond, not, ◌&&◌, ◌||◌, List, [], ◌∷◌, ◌++◌, ℤ, is_some, is_ok, Some, None, Err, Option, ◌==◌, int_lt, nat_le, nat_lt}
+use Rattle.std.specs.Prelude.{◌≡◌, ℕ, ◌+◌, max, min, Bool, true, false, cond, not, ◌&&◌, ◌||◌, List, [], ◌∷◌, ◌++◌, ℤ, is_some, Some, None, Ok, Err, Option, Result, ◌==◌, int_lt, nat_le, nat_lt}
 use Rattle.std.specs.Int.{int_max}
 use Rattle.std.specs.Option.{option_map}
 use Rattle.market.specs.declared.range.TurnedQuote.{TurnedQuote}
@@ -19,7 +19,7 @@ use Rattle.room.specs.Refusals.{refusal_number}
 use Rattle.room.specs.World.{World}
 use Rattle.session.specs.declared.calls.Call.{Call}
 use Rattle.session.specs.declared.calls.Call.TheVariants.{Open, Respond, Change, Withdraw, Tick, Halt, Resume, Clock, Look, Collect}
-use Rattle.session.specs.History.{Exchange, Story, is_above, is_below, is_plain_kind, is_own, going_on, not_due, clock_time, time_then, halted_then, openings, market_at, shown_to, story_of, open_story, waits_then, waiting_then, history_of, Throughout}
+use Rattle.session.specs.History.{Exchange, Story, is_above, is_below, is_plain_kind, is_own, going_on, not_due, clock_time, time_then, halted_then, openings, market_at, shown_to, story_of, open_story, waits_then, waiting_then, exchange_of, history_of, Throughout}
 use Rattle.session.specs.Inputs.{first_that_holds, input_reasons, input_reason}
 use Rattle.session.specs.Runs.{Answer, Opened, Stored, Accepted, Looked, Collected, Refused, Moment, run}
 
@@ -106,21 +106,18 @@ respond_reasons x s =
     ∷ ((used_up s x.member, 27)
     ∷ [])))
 
--- A change: 25 no such response stands, 26 it is plain, 23, 27.
+-- Only a sealed response that stands is changed or withdrawn: 25 no such response stands, 26 it is plain.
+abbrev pub sealed_reasons : Option Told → List (Bool × ℕ)
+sealed_reasons r = (not (is_some r), 25) ∷ ((is_plain_standing r, 26) ∷ [])
+
+-- A change: 25, 26, 23, 27.
 abbrev pub change_reasons : ChangeRequest → Story → List (Bool × ℕ)
 change_reasons x s =
-    (not (is_some (standing_of x.member x.own s.stood)), 25)
-    ∷ ((is_plain_standing (standing_of x.member x.own s.stood), 26)
-    ∷ ((above_initiating s x.price, 23)
-    ∷ ((used_up s x.member, 27)
-    ∷ [])))
+    sealed_reasons (standing_of x.member x.own s.stood) ++ (above_initiating s x.price, 23) ∷ ((used_up s x.member, 27) ∷ [])
 
 -- A withdrawal: 25, 26.
 abbrev pub withdraw_reasons : WithdrawRequest → Story → List (Bool × ℕ)
-withdraw_reasons x s =
-    (not (is_some (standing_of x.member x.own s.stood)), 25)
-    ∷ ((is_plain_standing (standing_of x.member x.own s.stood), 26)
-    ∷ [])
+withdraw_reasons x s = sealed_reasons (standing_of x.member x.own s.stood)
 
 -- The higher of the price and the floor, turned back, and the lesser of the size and the order's.
 abbrev pub terms_kept : Story → ℤ → ℕ → StoredTerms
@@ -134,44 +131,59 @@ terms_due (Some s) (Change x) = Some (terms_kept s x.price x.size)
 terms_due (Some s) (Withdraw x) = option_map (λ (r : Told). record { price = r.price; size = r.size }) (standing_of x.member x.own s.stood)
 terms_due _ _ = None
 
-module _ {P T F Q : Type 0} (w : World P T F Q) (number : ℕ) (p : P) (q : Q) where
+-- The fault for which a market refuses a tick.
+abbrev pub fault_in : {F : Type 0} → Result (Unit {0}) F → Option F
+fault_in (Ok _) = None
+fault_in (Err f) = Some f
+
+module _ {P T F Q : Type 0} (w : World P T F Q) (p : P) (q : Q) (past : List (Exchange T F)) where
   -- The open auction as a call finds it: after its clock step.
-  abbrev pub found_open : List (Exchange T F) → Call T → Option Story
-  found_open past c = not_due (max (time_then past) (clock_time c)) (open_story w p q past)
+  abbrev pub found_open : Call T → Option Story
+  found_open c = not_due (max (time_then past) (clock_time c)) (open_story w p q past)
 
-  -- An auction waits then: it did before, or the clock step has just ended one.
-  abbrev pub one_waits : List (Exchange T F) → Call T → Bool
-  one_waits past c = nat_lt 0 (waiting_then w p q past) || (is_some (open_story w p q past) && not (is_some (found_open past c)))
+  -- An auction waits then: one did before, or the clock step has just ended one.
+  abbrev pub one_waits : Call T → Bool
+  one_waits c = nat_lt 0 (waiting_then w p q past) || (is_some (open_story w p q past) && not (is_some (found_open c)))
 
+  -- The market's fault at a tick, at the position to which the accepted ticks lead.
+  abbrev pub market_fault : Call T → Option F
+  market_fault (Tick t x) = fault_in (w.market.answer (market_at w p q past) x)
+  market_fault _ = None
+
+module _ {P T F Q : Type 0} (w : World P T F Q) (number : ℕ) (p : P) (q : Q) (past : List (Exchange T F)) where
   -- The reasons against a call that passes its input checks. An opening: 12 the room is halted, 13 an auction waits, 14 to
   -- 16, 17 a million auctions were opened. A tick: 31 the market refuses it. A collecting: 42 another room's claim, 41 the
   -- auction is still open, 42 it does not wait.
-  abbrev pub state_reasons : List (Exchange T F) → Call T → List (Bool × ℕ)
-  state_reasons past (Open x) =
-      (halted_then past, 12) ∷ ((one_waits past (Open x), 13) ∷ (price_reasons x.order (shown_to w p q x.order.side past) ++ (nat_le 1000000 (openings past), 17) ∷ []))
-  state_reasons past (Respond x) = by_open (found_open past (Respond x)) (respond_reasons x)
-  state_reasons past (Change x) = by_open (found_open past (Change x)) (change_reasons x)
-  state_reasons past (Withdraw x) = by_open (found_open past (Withdraw x)) (withdraw_reasons x)
-  state_reasons past (Tick t x) = (not (is_ok (w.market.answer (market_at w p q past) x)), 31) ∷ []
-  state_reasons past (Collect c n) =
+  abbrev pub state_reasons : Call T → List (Bool × ℕ)
+  state_reasons (Open x) =
+      (halted_then past, 12) ∷ ((one_waits w p q past (Open x), 13) ∷ (price_reasons x.order (shown_to w p q x.order.side past) ++ (nat_le 1000000 (openings past), 17) ∷ []))
+  state_reasons (Respond x) = by_open (found_open w p q past (Respond x)) (respond_reasons x)
+  state_reasons (Change x) = by_open (found_open w p q past (Change x)) (change_reasons x)
+  state_reasons (Withdraw x) = by_open (found_open w p q past (Withdraw x)) (withdraw_reasons x)
+  state_reasons (Tick t x) = (is_some (market_fault w p q past (Tick t x)), 31) ∷ []
+  state_reasons (Collect c n) =
       (not (c.room == number), 42) ∷ ((is_some (going_on (story_of w p q c.auction past)), 41) ∷ ((not (waits_then w p q c.auction past), 42) ∷ []))
-  state_reasons past _ = []
+  state_reasons _ = []
 
   -- All of them, the input checks first.
-  abbrev pub reasons : List (Exchange T F) → Call T → List (Bool × ℕ)
-  reasons past c = input_reasons c ++ state_reasons past c
+  abbrev pub reasons : Call T → List (Bool × ℕ)
+  reasons c = input_reasons c ++ state_reasons c
 
-  pub record AnswersHaveTheirReasons (past : List (Moment P T F Q)) (m : Moment P T F Q) : Type 0 where
+  pub record AnsweredWithReason (x : Exchange T F) : Type 0 where
     -- A call is refused exactly if there is a reason, and told the first.
-    pub reason : refused_number m.answer ≡ first_that_holds (reasons (history_of past) m.call)
+    pub reason : refused_number x.answer ≡ first_that_holds (reasons x.call)
     -- What is accepted is answered in the call's kind.
-    pub kind : in_kind m.call m.answer ≡ true
+    pub kind : in_kind x.call x.answer ≡ true
     -- A claim has the room's number and the next auction's, counted from 1.
-    pub claim : (c : ClaimNumbers) → m.answer ≡ Opened c → c ≡ record { room = number; auction = openings (history_of past) + 1 }
+    pub claim : (c : ClaimNumbers) → x.answer ≡ Opened c → c ≡ record { room = number; auction = openings past + 1 }
     -- The stored price and size that are told.
-    pub terms : (t : StoredTerms) → m.answer ≡ Stored t → terms_due (found_open (history_of past) m.call) m.call ≡ Some t
-    -- Refusal 31 holds the fault of the market at the position to which the accepted ticks lead.
-    pub fault : (time : ℕ) (x : T) (f : F) → m.call ≡ Tick time x → input_reason m.call ≡ None → w.market.answer (market_at w p q (history_of past)) x ≡ Err f → fault_told m.answer ≡ Some f
+    pub terms : (t : StoredTerms) → x.answer ≡ Stored t → terms_due (found_open w p q past x.call) x.call ≡ Some t
+    -- A tick that passes its input check is told the market's fault, if it has one.
+    pub fault : (f : F) → input_reason x.call ≡ None → market_fault w p q past x.call ≡ Some f → fault_told x.answer ≡ Some f
+
+-- Each answer of a run has its reason in the calls and answers before it, and what is told follows from them.
+abbrev pub AnswersHaveTheirReasons : {P T F Q : Type 0} → World P T F Q → ℕ → P → Q → List (Moment P T F Q) → Moment P T F Q → Type 0
+AnswersHaveTheirReasons w number p q past m = AnsweredWithReason w number p q (history_of past) (exchange_of m)
 
 -- Of every run.
 abbrev pub AnswersHaveTheirReasonsInRuns : {P T F Q : Type 0} → World P T F Q → Type 0
