@@ -5,6 +5,7 @@ use Rattle.session.specs.declared.calls.Call.{Call}
 use Rattle.session.specs.Laws.{RunLaws, LawsOfRun, LawsOfSession}
 use Rattle.session.specs.Sessions.{Session}
 use Rattle.session.proofs.Ending.Laws.{auctions_end_as_ruled}
+use Rattle.session.proofs.Learning.Alike.{alike_to_itself, alike_both_ways}
 use Rattle.session.proofs.Learning.Learned.{member_sees_the_same}
 use Rattle.session.proofs.Learning.LearnedInSessions.{member_sees_the_same_in_sessions}
 use Rattle.session.proofs.Looking.{looks_tell_the_history}
@@ -14,6 +15,8 @@ use Rattle.session.proofs.Sharing.{contracts_are_shared_lawfully}
 
 pub run_laws : {P T F Q : Type 0} (w : World P T F Q) → Terms w → RunLaws w
 run_laws w terms = record {
+  alike_to_itself = alike_to_itself;
+  alike_both_ways = alike_both_ways;
   learning = member_sees_the_same w;
   session_learning = member_sees_the_same_in_sessions w;
   looks = looks_tell_the_history w terms;
@@ -27,6 +30,7 @@ pub laws_of_run : {P T F Q : Type 0} (w : World P T F Q) → Terms w → (number
 laws_of_run w terms number p q cs =
     let ends = auctions_end_as_ruled w terms number p q cs in
     record {
+      alike_to_itself = λ u. alike_to_itself u cs;
       learning = λ u ds. member_sees_the_same w number p q u cs ds;
       looks = looks_tell_the_history w terms number p q cs;
       within_a_second = ends.0;

@@ -6,7 +6,7 @@ use Rattle.session.specs.declared.calls.Call.{Call}
 use Rattle.session.specs.Ending.{EndedWithinASecond, BusinessAfterTheClockStep, NotByTimeTooSoon, EndedNotVanished, EndedForItsCauses, AuctionsEndAsRuled}
 use Rattle.session.specs.History.{Throughout}
 use Rattle.session.specs.Looking.{LooksTellTheHistory, LooksTellTheHistoryInRuns}
-use Rattle.session.specs.Learning.{AllAlike, opens_here, ends_here, seen_by, MemberSeesTheSame}
+use Rattle.session.specs.Learning.{AllAlike, AlikeToItself, AlikeBothWays, opens_here, ends_here, seen_by, MemberSeesTheSame}
 use Rattle.session.specs.Reasons.{AnswersHaveTheirReasons, AnswersHaveTheirReasonsInRuns}
 use Rattle.session.specs.Runs.{Moment, run}
 use Rattle.session.specs.SessionLearning.{ShownTheSame, MemberSeesTheSameInSessions, opens_if_made, ends_if_made}
@@ -14,6 +14,8 @@ use Rattle.session.specs.Sessions.{Session, session_answers, session_moments}
 use Rattle.session.specs.Sharing.{CollectedLawfully, ContractsAreSharedLawfully}
 
 pub record RunLaws {P T F Q : Type 0} (w : World P T F Q) : Type 0 where
+  pub alike_to_itself : AlikeToItself T
+  pub alike_both_ways : AlikeBothWays T
   pub learning : MemberSeesTheSame w
   pub session_learning : MemberSeesTheSameInSessions w
   pub looks : LooksTellTheHistoryInRuns w
@@ -24,7 +26,9 @@ pub record RunLaws {P T F Q : Type 0} (w : World P T F Q) : Type 0 where
 -- The laws of one run: of these calls on a room made of this number and these positions.
 pub record LawsOfRun {P T F Q : Type 0} (w : World P T F Q) (number : ℕ) (p : P) (q : Q) (cs : List (Call T)) : Type 0 where
   -- What a member may learn: against every other list of calls that is alike to the member, and in which openings are
-  -- accepted and auctions end at the same places, the member is shown the same at every place.
+  -- accepted and auctions end at the same places, the member is shown the same at every place. These calls are alike to
+  -- themselves, so that this is said of every list.
+  pub alike_to_itself : (u : ℕ) → AllAlike u cs cs
   pub learning : (u : ℕ) (ds : List (Call T)) → AllAlike u cs ds
       → map opens_here (run w number p q cs) ≡ map opens_here (run w number p q ds)
       → map ends_here (run w number p q cs) ≡ map ends_here (run w number p q ds)

@@ -1,11 +1,9 @@
 -- What a member may learn from looks and from the answers to its own responses, changes and withdrawals, given where
 -- openings are accepted and where auctions end: nothing of a guarantee, and nothing of the price, the size and the class
--- in other members' responses and changes.
-use Rattle.std.specs.Prelude.{◌≡◌, ℕ, Bool, true, false, cond, ◌&&◌, ◌||◌, List, [], ◌∷◌, map, pos, is_some, Some, None, Option, ◌==◌}
+-- in other members' responses and changes. A term outside its limits is not hidden, since the input checks tell of it.
+use Rattle.std.specs.Prelude.{◌≡◌, ◌⊎◌, ℕ, Bool, true, false, not, cond, ◌&&◌, List, [], ◌∷◌, map, is_some, Some, None, Option, ◌==◌}
 use Rattle.allocation.specs.declared.order.Guarantee.{Guarantee}
-use Rattle.allocation.specs.declared.order.GuaranteeKind.TheVariants.{SingleStop}
-use Rattle.allocation.specs.declared.order.PairedOrder.{PairedOrder}
-use Rattle.allocation.specs.declared.response.Class.TheVariants.{Customer}
+use Rattle.allocation.specs.declared.response.Class.{Class}
 use Rattle.room.specs.declared.requests.ChangeRequest.{ChangeRequest}
 use Rattle.room.specs.declared.requests.OpeningRequest.{OpeningRequest}
 use Rattle.room.specs.declared.requests.ResponseRequest.{ResponseRequest}
@@ -18,56 +16,56 @@ use Rattle.session.specs.History.{opened_number}
 use Rattle.session.specs.Moments.{ends_at}
 use Rattle.session.specs.Runs.{Answer, Moment, run}
 
--- A guarantee is hidden whole, its kind and its price; what stands in its place says nothing.
-abbrev pub no_guarantee : Guarantee
-no_guarantee = record { kind = SingleStop; price = pos 0 }
+-- A term that is hidden on both sides, or equal.
+abbrev pub HiddenOrEqual : {X : Type 0} → (X → Bool) → X → X → Type 0
+HiddenOrEqual hidden x y = ((hidden x ≡ true) × (hidden y ≡ true)) ⊎ (x ≡ y)
 
-abbrev pub guarantee_hidden : PairedOrder → PairedOrder
-guarantee_hidden o = record { side = o.side; size = o.size; limit = o.limit; guarantee = no_guarantee }
+-- A guarantee is hidden from every member, whole, its kind and its price, where its price is inside the limits.
+abbrev pub guarantee_hidden : Guarantee → Bool
+guarantee_hidden g = price_ok g.price
 
-abbrev pub opening_hidden : OpeningRequest → OpeningRequest
-opening_hidden x = record { time = x.time; member = x.member; order = guarantee_hidden x.order }
+-- A term of a response or change is hidden from a member u that is not its sender, where the term is inside its limits.
+abbrev pub hidden_from : {X : Type 0} → ℕ → ℕ → (X → Bool) → X → Bool
+hidden_from u sender in_limits x = not (sender == u) && in_limits x
 
--- A response without its price, size and class.
-abbrev pub response_hidden : ResponseRequest → ResponseRequest
-response_hidden x = record { time = x.time; member = x.member; own = x.own; side = x.side; kind = x.kind; class = Customer; size = 1; price = pos 0 }
+-- Each class is inside its limits.
+abbrev pub class_ok : Class → Bool
+class_ok c = true
 
--- A change without its price and size.
-abbrev pub change_hidden : ChangeRequest → ChangeRequest
-change_hidden x = record { time = x.time; member = x.member; own = x.own; size = 1; price = pos 0 }
+-- Two openings that are equal but for a guarantee that is hidden, whoever opens.
+pub record OpeningsAlike (x y : OpeningRequest) : Type 0 where
+  pub time : x.time ≡ y.time
+  pub member : x.member ≡ y.member
+  pub side : x.order.side ≡ y.order.side
+  pub size : x.order.size ≡ y.order.size
+  pub limit : x.order.limit ≡ y.order.limit
+  pub guarantee : HiddenOrEqual guarantee_hidden x.order.guarantee y.order.guarantee
 
--- A call without what is hidden from a member: the guarantee of every opening, whoever opens, and the terms of other
--- members' responses and changes.
-abbrev pub hidden_from : {T : Type 0} → ℕ → Call T → Call T
-hidden_from u (Open x) = Open (opening_hidden x)
-hidden_from u (Respond x) = Respond (cond (x.member == u) x (response_hidden x))
-hidden_from u (Change x) = Change (cond (x.member == u) x (change_hidden x))
-hidden_from u (Withdraw x) = Withdraw x
-hidden_from u (Tick t x) = Tick t x
-hidden_from u (Halt t) = Halt t
-hidden_from u (Resume t) = Resume t
-hidden_from u (Clock t) = Clock t
-hidden_from u Look = Look
-hidden_from u (Collect c n) = Collect c n
+-- Two responses that are equal but for those of price, size and class that are hidden from a member.
+pub record ResponsesAlike (u : ℕ) (x y : ResponseRequest) : Type 0 where
+  pub time : x.time ≡ y.time
+  pub member : x.member ≡ y.member
+  pub own : x.own ≡ y.own
+  pub side : x.side ≡ y.side
+  pub kind : x.kind ≡ y.kind
+  pub price : HiddenOrEqual (hidden_from u x.member price_ok) x.price y.price
+  pub size : HiddenOrEqual (hidden_from u x.member size_ok) x.size y.size
+  pub class : HiddenOrEqual (hidden_from u x.member class_ok) x.class y.class
 
--- What is hidden is inside its limits. (Outside, the input checks would tell.)
-abbrev pub hidden_in_limits : {T : Type 0} → ℕ → Call T → Bool
-hidden_in_limits u (Open x) = price_ok x.order.guarantee.price
-hidden_in_limits u (Respond x) = x.member == u || (price_ok x.price && size_ok x.size)
-hidden_in_limits u (Change x) = x.member == u || (price_ok x.price && size_ok x.size)
-hidden_in_limits u (Withdraw x) = true
-hidden_in_limits u (Tick t x) = true
-hidden_in_limits u (Halt t) = true
-hidden_in_limits u (Resume t) = true
-hidden_in_limits u (Clock t) = true
-hidden_in_limits u Look = true
-hidden_in_limits u (Collect c n) = true
+-- Two changes that are equal but for those of price and size that are hidden from a member.
+pub record ChangesAlike (u : ℕ) (x y : ChangeRequest) : Type 0 where
+  pub time : x.time ≡ y.time
+  pub member : x.member ≡ y.member
+  pub own : x.own ≡ y.own
+  pub price : HiddenOrEqual (hidden_from u x.member price_ok) x.price y.price
+  pub size : HiddenOrEqual (hidden_from u x.member size_ok) x.size y.size
 
--- Two calls that are equal but for what is hidden from a member, which is inside its limits in both.
-pub record Alike {T : Type 0} (u : ℕ) (c d : Call T) : Type 0 where
-  pub but_for_hidden : hidden_from u c ≡ hidden_from u d
-  pub left_in_limits : hidden_in_limits u c ≡ true
-  pub right_in_limits : hidden_in_limits u d ≡ true
+-- Two calls that are alike to a member. Of all other calls nothing is hidden.
+abbrev pub Alike : {T : Type 0} → ℕ → Call T → Call T → Type 0
+Alike u (Open x) (Open y) = OpeningsAlike x y
+Alike u (Respond x) (Respond y) = ResponsesAlike u x y
+Alike u (Change x) (Change y) = ChangesAlike u x y
+Alike u c d = c ≡ d
 
 -- Two lists of calls of equal length that are alike place by place.
 abbrev pub AllAlike : {T : Type 0} → ℕ → List (Call T) → List (Call T) → Type 0
@@ -75,6 +73,14 @@ AllAlike u [] [] = Unit {0}
 AllAlike u [] (d ∷ ds) = ⊥
 AllAlike u (c ∷ cs) [] = ⊥
 AllAlike u (c ∷ cs) (d ∷ ds) = Alike u c d × AllAlike u cs ds
+
+-- Every list of calls is alike to itself to each member, whatever in it is outside its limits; and of two lists it does not
+-- matter which comes first.
+abbrev pub AlikeToItself : Type 0 → Type 0
+AlikeToItself T = (u : ℕ) (cs : List (Call T)) → AllAlike u cs cs
+
+abbrev pub AlikeBothWays : Type 0 → Type 0
+AlikeBothWays T = (u : ℕ) (cs ds : List (Call T)) → AllAlike u cs ds → AllAlike u ds cs
 
 -- What a member is shown of a call's answer: of a look all, and of its own responses, changes and withdrawals all. Claims,
 -- the answers to ticks, and what a collecting writes are not compared.

@@ -19,10 +19,11 @@ use Rattle.session.specs.declared.calls.Call.{Call}
 use Rattle.session.specs.declared.calls.Call.TheVariants.{Open, Respond, Change, Withdraw, Tick, Halt, Resume, Clock, Look, Collect}
 use Rattle.session.specs.Claims.{claim_to}
 use Rattle.session.specs.History.{opened_number, is_collected}
-use Rattle.session.specs.Learning.{hidden_from, opens_here}
+use Rattle.session.specs.Learning.{opens_here}
 use Rattle.session.specs.Runs.{Answer, Opened, Stored, Accepted, Looked, Collected, Refused, answered, clock_stepped, moment, step}
 use Rattle.session.specs.Sessions.{claim_in, without_claim, purse_after, is_made}
 use Rattle.session.proofs.Ending.Shapes.{OpenedHere, opened_or_not, did}
+use Rattle.session.proofs.Learning.Hidden.{without_hidden}
 use Rattle.session.proofs.Learning.Known.{Known, known, numbers, numbered_known, waiting_known, collectable_known}
 use Rattle.session.proofs.Learning.OthersCalls.{is_number_follows}
 use Rattle.session.proofs.Learning.OwnRows.{numbered_follows}
@@ -50,7 +51,7 @@ purse_known F opens k Look purse = purse
 purse_known F opens k (Collect c n) purse = cond (is_ok (collectable_known {F = F} k c n)) (without_claim c purse) purse
 
 -- What is hidden does not tell whether a call is made.
-pub hidden_made : {T : Type 0} (u : ℕ) (c : Call T) (purse : List ClaimNumbers) → is_made (hidden_from u c) purse ≡ is_made c purse
+pub hidden_made : {T : Type 0} (u : ℕ) (c : Call T) (purse : List ClaimNumbers) → is_made (without_hidden u c) purse ≡ is_made c purse
 hidden_made u (Open x) purse = refl
 hidden_made u (Respond x) purse = refl
 hidden_made u (Change x) purse = refl
@@ -117,7 +118,7 @@ module _ {P T F Q : Type 0} (w : World P T F Q) (u : ℕ) (s : RoomState P Q) wh
       ∙ ap (λ i. is_ok (unless a (unless (b i) (waiting_known {F = F} (numbered_known c.auction (numbers s.waiting)))))) (sym (is_number_follows u c.auction s.current))
 
   -- Every call.
-  pub claims_follow : (c : Call T) (purse : List ClaimNumbers) → purse_after c (step w s c).1 purse ≡ purse_known F (opens_here (moment w s c)) (known u s) (hidden_from u c) purse
+  pub claims_follow : (c : Call T) (purse : List ClaimNumbers) → purse_after c (step w s c).1 purse ≡ purse_known F (opens_here (moment w s c)) (known u s) (without_hidden u c) purse
   claims_follow (Open x) purse = ap (λ l. purse ++ l) (opening_adds x)
   claims_follow (Respond x) purse = refl
   claims_follow (Change x) purse = refl

@@ -1,6 +1,5 @@
--- What the input checks tell: a call that passes them has a member, and terms inside their limits may be hidden.
-use Rattle.std.proofs.Common.{◌≡◌, ℕ, ◌≤◌, Bool, true, false, not, ◌&&◌, ltb, None, Option, ap, ◌∙◌, arith}
-use Rattle.std.proofs.lemmas.Bool.{and_parts}
+-- What the input checks tell: a call that passes them has a member, and of what is hidden they tell nothing.
+use Rattle.std.proofs.Common.{◌≡◌, ℕ, ◌≤◌, Bool, true, false, cond, not, ltb, ℤ, pos, None, Option, sym, refl, ap, ◌∙◌, arith}
 use Rattle.std.proofs.lemmas.Bool.Decides.{nat_tests}
 use Rattle.allocation.specs.AuctionInvariant.{from_to}
 use Rattle.room.specs.declared.refusal.Refusal.{Refusal}
@@ -10,7 +9,8 @@ use Rattle.room.specs.declared.requests.ResponseRequest.{ResponseRequest}
 use Rattle.room.specs.Checks.{price_ok, size_ok, open_checks, respond_checks, change_checks}
 use Rattle.room.specs.Refusals.{refuse}
 use Rattle.room.proofs.Tests.{refuse_none}
-use Rattle.session.specs.Learning.{opening_hidden, response_hidden, change_hidden}
+use Rattle.session.specs.Learning.{guarantee_hidden}
+use Rattle.session.proofs.Learning.Hidden.{kept_unless, no_guarantee, opening_without, response_without, change_without}
 
 a_member : (m : ℕ) → not (from_to 1 16 m) ≡ false → 1 ≤ m
 a_member m h = grind (arith, nat_tests)
@@ -31,23 +31,31 @@ responding_member F x h = member_of_checks _ (not (price_ok x.price)) (not (size
 pub changing_member : (F : Type 0) (x : ChangeRequest) → change_checks {F = F} x ≡ None → 1 ≤ x.member
 changing_member F x h = member_of_checks _ (not (price_ok x.price)) (not (size_ok x.size)) x.member _ h
 
--- What is hidden is inside its limits, so the input checks do not tell of it.
+-- What stands in place of a hidden term is inside its limits as the term is, and a term outside its limits is not hidden.
+limits_by : {X : Type 0} (in_limits : X → Bool) (blank x : X) (b : Bool) → in_limits blank ≡ true → in_limits x ≡ b → in_limits (cond b blank x) ≡ b
+limits_by in_limits blank x true h e = h
+limits_by in_limits blank x false h e = e
+
+limits_same : {X : Type 0} (in_limits : X → Bool) (blank x : X) → in_limits blank ≡ true → in_limits (kept_unless in_limits blank x) ≡ in_limits x
+limits_same in_limits blank x h = limits_by in_limits blank x (in_limits x) h refl
+
+-- So the input checks tell nothing of what is hidden.
 module _ (F : Type 0) where
-  pub open_checks_same : (x : OpeningRequest) → price_ok x.order.guarantee.price ≡ true → open_checks {F = F} x ≡ open_checks (opening_hidden x)
-  open_checks_same x h =
-      ap (λ b. refuse (ltb 4000000000000 x.time) 1 (refuse (not (price_ok x.order.limit)) 2 (refuse (not b) 2 (refuse (not (size_ok x.order.size)) 3 (refuse (not (from_to 1 16 x.member)) 4 None))))) h
+  pub open_checks_same : (x : OpeningRequest) → open_checks {F = F} x ≡ open_checks (opening_without x)
+  open_checks_same x =
+      ap (λ b. refuse (ltb 4000000000000 x.time) 1 (refuse (not (price_ok x.order.limit)) 2 (refuse (not b) 2 (refuse (not (size_ok x.order.size)) 3 (refuse (not (from_to 1 16 x.member)) 4 None)))))
+      (sym (limits_same guarantee_hidden no_guarantee x.order.guarantee refl))
 
-  terms_checks_same : (time member own : Bool) (a b : Bool) → (a && b) ≡ true
-      → ◌≡◌ {A = Option (Refusal F)} (refuse time 1 (refuse (not a) 2 (refuse (not b) 3 (refuse member 4 (refuse own 5 None))))) (refuse time 1 (refuse member 4 (refuse own 5 None)))
-  terms_checks_same time member own a b h =
-      let both = and_parts a b h in
-      ap (λ c. refuse time 1 (refuse (not c) 2 (refuse (not b) 3 (refuse member 4 (refuse own 5 None))))) both.0
-      ∙ ap (λ c. refuse time 1 (refuse (not c) 3 (refuse member 4 (refuse own 5 None)))) both.1
+  terms_checks_same : (time member own : Bool) (price : ℤ) (size : ℕ)
+      → let checks : Bool → Bool → Option (Refusal F) = λ a b. refuse time 1 (refuse (not a) 2 (refuse (not b) 3 (refuse member 4 (refuse own 5 None)))) in
+      checks (price_ok price) (size_ok size) ≡ checks (price_ok (kept_unless price_ok (pos 0) price)) (size_ok (kept_unless size_ok 1 size))
+  terms_checks_same time member own price size =
+      let checks : Bool → Bool → Option (Refusal F) = λ a b. refuse time 1 (refuse (not a) 2 (refuse (not b) 3 (refuse member 4 (refuse own 5 None)))) in
+      ap (λ a. checks a (size_ok size)) (sym (limits_same price_ok (pos 0) price refl))
+      ∙ ap (λ b. checks (price_ok (kept_unless price_ok (pos 0) price)) b) (sym (limits_same size_ok 1 size refl))
 
-  pub respond_checks_same : (x : ResponseRequest) → (price_ok x.price && size_ok x.size) ≡ true → respond_checks {F = F} x ≡ respond_checks (response_hidden x)
-  respond_checks_same x h =
-      terms_checks_same (ltb 4000000000000 x.time) (not (from_to 1 16 x.member)) (not (from_to 1 4 x.own)) (price_ok x.price) (size_ok x.size) h
+  pub respond_checks_same : (x : ResponseRequest) → respond_checks {F = F} x ≡ respond_checks (response_without false x)
+  respond_checks_same x = terms_checks_same (ltb 4000000000000 x.time) (not (from_to 1 16 x.member)) (not (from_to 1 4 x.own)) x.price x.size
 
-  pub change_checks_same : (x : ChangeRequest) → (price_ok x.price && size_ok x.size) ≡ true → change_checks {F = F} x ≡ change_checks (change_hidden x)
-  change_checks_same x h =
-      terms_checks_same (ltb 4000000000000 x.time) (not (from_to 1 16 x.member)) (not (from_to 1 4 x.own)) (price_ok x.price) (size_ok x.size) h
+  pub change_checks_same : (x : ChangeRequest) → change_checks {F = F} x ≡ change_checks (change_without false x)
+  change_checks_same x = terms_checks_same (ltb 4000000000000 x.time) (not (from_to 1 16 x.member)) (not (from_to 1 4 x.own)) x.price x.size

@@ -4,8 +4,9 @@ use Rattle.std.proofs.Common.{◌≡◌, ℕ, List, [], ◌∷◌, map, Option, 
 use Rattle.room.specs.State.{RoomState, new_room}
 use Rattle.room.specs.World.{World}
 use Rattle.session.specs.declared.calls.Call.{Call}
-use Rattle.session.specs.Learning.{AllAlike, Alike, MemberSeesTheSame, hidden_from, seen_by, opens_here, ends_here}
+use Rattle.session.specs.Learning.{AllAlike, Alike, MemberSeesTheSame, seen_by, opens_here, ends_here}
 use Rattle.session.specs.Runs.{Answer, step, moment, run_from}
+use Rattle.session.proofs.Learning.Hidden.{without_hidden, same_without_hidden}
 use Rattle.session.proofs.Learning.Known.{Known, known, known_step}
 use Rattle.session.proofs.Learning.Steps.{follows}
 
@@ -25,12 +26,12 @@ module _ {P T F Q : Type 0} (w : World P T F Q) (u : ℕ) where
       → opens_here (moment w s c) ≡ opens_here (moment w z d) → ends_here (moment w s c) ≡ ends_here (moment w z d)
       → learned s c ≡ learned z d
   same_call s z c d k a o e =
-      follows w u s c a.left_in_limits
-      ∙ ap (λ b. known_step w u b (ends_here (moment w s c)) (known u s) (hidden_from u c)) o
-      ∙ ap (λ b. known_step w u (opens_here (moment w z d)) b (known u s) (hidden_from u c)) e
-      ∙ ap (λ j. known_step w u (opens_here (moment w z d)) (ends_here (moment w z d)) j (hidden_from u c)) k
-      ∙ ap (λ x. known_step w u (opens_here (moment w z d)) (ends_here (moment w z d)) (known u z) x) a.but_for_hidden
-      ∙ sym (follows w u z d a.right_in_limits)
+      follows w u s c
+      ∙ ap (λ b. known_step w u b (ends_here (moment w s c)) (known u s) (without_hidden u c)) o
+      ∙ ap (λ b. known_step w u (opens_here (moment w z d)) b (known u s) (without_hidden u c)) e
+      ∙ ap (λ j. known_step w u (opens_here (moment w z d)) (ends_here (moment w z d)) j (without_hidden u c)) k
+      ∙ ap (λ x. known_step w u (opens_here (moment w z d)) (ends_here (moment w z d)) (known u z) x) (same_without_hidden u c d a)
+      ∙ sym (follows w u z d)
 
   -- All calls, from rooms of which the member knows the same.
   two_runs : (s z : RoomState P Q) (cs ds : List (Call T)) → known u s ≡ known u z → AllAlike u cs ds

@@ -4,11 +4,12 @@ use Rattle.std.proofs.Common.{◌≡◌, ℕ, Bool, true, false, cond, List, [],
 use Rattle.room.specs.declared.answers.ClaimNumbers.{ClaimNumbers}
 use Rattle.room.specs.World.{World}
 use Rattle.session.specs.declared.calls.Call.{Call}
-use Rattle.session.specs.Learning.{AllAlike, Alike, hidden_from, hidden_in_limits, opens_here, ends_here}
+use Rattle.session.specs.Learning.{AllAlike, Alike, opens_here, ends_here}
 use Rattle.session.specs.Runs.{Answer, Moment, step, moment}
 use Rattle.session.specs.SessionLearning.{ShownTheSame, MemberSeesTheSameInSessions, opens_if_made, ends_if_made, seen_if_made}
 use Rattle.session.specs.Sessions.{Session, session_of, is_made, purse_after, session_after, session_moment, session_moments}
 use Rattle.session.proofs.Learning.Claims.{purse_known, hidden_made, claims_follow}
+use Rattle.session.proofs.Learning.Hidden.{without_hidden, same_without_hidden}
 use Rattle.session.proofs.Learning.Known.{Known, known, known_step}
 use Rattle.session.proofs.Learning.Learned.{same_head, same_tail}
 use Rattle.session.proofs.Learning.Steps.{follows}
@@ -43,28 +44,28 @@ module _ {P T F Q : Type 0} (w : World P T F Q) (u : ℕ) where
   abbrev learned_step : Bool → Bool → KnownSession P Q → Call T → LearnedAt P F Q
   learned_step opens ends k c = step_by (is_made c k.purse) opens ends k c
 
-  made_follows : (s : Session P Q) (c : Call T) → hidden_in_limits u c ≡ true
+  made_follows : (s : Session P Q) (c : Call T)
       → let m = moment w s.room c in
-      learned (session_of (step w s.room c).0 (purse_after c (step w s.room c).1 s.purse)) (Some m) ≡ made_step (opens_here m) (ends_here m) (known_session s) (hidden_from u c)
-  made_follows s c l =
-      let y = follows w u s.room c l in
+      learned (session_of (step w s.room c).0 (purse_after c (step w s.room c).1 s.purse)) (Some m) ≡ made_step (opens_here m) (ends_here m) (known_session s) (without_hidden u c)
+  made_follows s c =
+      let y = follows w u s.room c in
       let purse = purse_after c (step w s.room c).1 s.purse in
       ap (λ (z : Known P Q × Option (Answer F)). record { then = record { room = z.0; purse = purse }; made = true; shown = z.1 }) y
-      ∙ ap (λ p. let z = known_step w u (opens_here (moment w s.room c)) (ends_here (moment w s.room c)) (known u s.room) (hidden_from u c) in record { then = record { room = z.0; purse = p }; made = true; shown = z.1 }) (claims_follow w u s.room c s.purse)
+      ∙ ap (λ p. let z = known_step w u (opens_here (moment w s.room c)) (ends_here (moment w s.room c)) (known u s.room) (without_hidden u c) in record { then = record { room = z.0; purse = p }; made = true; shown = z.1 }) (claims_follow w u s.room c s.purse)
 
-  follows_by : (b : Bool) (s : Session P Q) (c : Call T) → hidden_in_limits u c ≡ true
+  follows_by : (b : Bool) (s : Session P Q) (c : Call T)
       → let m = cond b (Some (moment w s.room c)) None in
-      learned (cond b (session_of (step w s.room c).0 (purse_after c (step w s.room c).1 s.purse)) s) m ≡ step_by b (opens_if_made m) (ends_if_made m) (known_session s) (hidden_from u c)
-  follows_by true s c l = made_follows s c l
-  follows_by false s c l = refl
+      learned (cond b (session_of (step w s.room c).0 (purse_after c (step w s.room c).1 s.purse)) s) m ≡ step_by b (opens_if_made m) (ends_if_made m) (known_session s) (without_hidden u c)
+  follows_by true s c = made_follows s c
+  follows_by false s c = refl
 
-  session_follows : (s : Session P Q) (c : Call T) → hidden_in_limits u c ≡ true
+  session_follows : (s : Session P Q) (c : Call T)
       → let m = session_moment w s c in
-      learned (session_after w s c) m ≡ learned_step (opens_if_made m) (ends_if_made m) (known_session s) (hidden_from u c)
-  session_follows s c l =
+      learned (session_after w s c) m ≡ learned_step (opens_if_made m) (ends_if_made m) (known_session s) (without_hidden u c)
+  session_follows s c =
       let m = session_moment w s c in
-      follows_by (is_made c s.purse) s c l
-      ∙ ap (λ b. step_by b (opens_if_made m) (ends_if_made m) (known_session s) (hidden_from u c)) (sym (hidden_made u c s.purse))
+      follows_by (is_made c s.purse) s c
+      ∙ ap (λ b. step_by b (opens_if_made m) (ends_if_made m) (known_session s) (without_hidden u c)) (sym (hidden_made u c s.purse))
 
   -- One call in each session.
   same_call : (s z : Session P Q) (c d : Call T) → known_session s ≡ known_session z → Alike u c d
@@ -73,12 +74,12 @@ module _ {P T F Q : Type 0} (w : World P T F Q) (u : ℕ) where
   same_call s z c d k a o e =
       let opens = opens_if_made (session_moment w z d) in
       let ends = ends_if_made (session_moment w z d) in
-      session_follows s c a.left_in_limits
-      ∙ ap (λ b. learned_step b (ends_if_made (session_moment w s c)) (known_session s) (hidden_from u c)) o
-      ∙ ap (λ b. learned_step opens b (known_session s) (hidden_from u c)) e
-      ∙ ap (λ j. learned_step opens ends j (hidden_from u c)) k
-      ∙ ap (λ x. learned_step opens ends (known_session z) x) a.but_for_hidden
-      ∙ sym (session_follows z d a.right_in_limits)
+      session_follows s c
+      ∙ ap (λ b. learned_step b (ends_if_made (session_moment w s c)) (known_session s) (without_hidden u c)) o
+      ∙ ap (λ b. learned_step opens b (known_session s) (without_hidden u c)) e
+      ∙ ap (λ j. learned_step opens ends j (without_hidden u c)) k
+      ∙ ap (λ x. learned_step opens ends (known_session z) x) (same_without_hidden u c d a)
+      ∙ sym (session_follows z d)
 
   -- All calls, from sessions of which the same is known.
   two_sessions : (s z : Session P Q) (cs ds : List (Call T)) → known_session s ≡ known_session z → AllAlike u cs ds

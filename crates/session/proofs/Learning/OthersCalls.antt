@@ -27,8 +27,8 @@ use Rattle.room.specs.State.{OpenAuction, EndedAuction, RoomState, is_number, nu
 use Rattle.room.specs.Ticks.{tick_cause, ticked_for, ticked, at_floor, floor_now, ticking_by, ticking}
 use Rattle.room.specs.World.{World}
 use Rattle.session.specs.History.{opened_number}
-use Rattle.session.specs.Learning.{guarantee_hidden}
 use Rattle.session.specs.Runs.{Opened, answered}
+use Rattle.session.proofs.Learning.Hidden.{order_without}
 use Rattle.session.proofs.Learning.Known.{Known, known, known_auction, numbers, ended_known, settled, with_auction_known, at_position_known, with_waiting_known, refloored, opened_known, opening_known, ticking_known_by, ticking_known, is_number_known, numbered_known, waiting_known, collectable_known, collected_by}
 use Rattle.session.proofs.Learning.OwnRows.{others_push, others_changed, others_withdrawn, own_count_other, numbered_follows, without_number_follows}
 use Rattle.session.proofs.Learning.Endings.{auction_rows, ends_in, gone_ends, kept_ends_not, ended_follows, with_current_same, closed_follows}
@@ -154,7 +154,7 @@ module _ {P T F Q : Type 0} (w : World P T F Q) (u : ℕ) where
   ticking_over t b k = over_by (w.market.answer k.position t) t b k
 
   -- An opening.
-  opened_follows : (s : RoomState P Q) (o : PairedOrder) (r : RangePrices) → known u (opened_with w s o r) ≡ opened_known w u (Ok r) (known u s) (guarantee_hidden o)
+  opened_follows : (s : RoomState P Q) (o : PairedOrder) (r : RangePrices) → known u (opened_with w s o r) ≡ opened_known w u (Ok r) (known u s) (order_without o)
   opened_follows s o r =
       ap (λ ns. record {
         number = s.number;
@@ -170,18 +170,18 @@ module _ {P T F Q : Type 0} (w : World P T F Q) (u : ℕ) where
   module _ (s : RoomState P Q) (o : PairedOrder) (tells : RangePrices → ClaimNumbers) where
     accepted_opening : (g : Option (Refusal F)) (r : RangePrices)
         → let y = outcome (unless g (Ok r)) s (opened_with w s o) tells in
-        known u y.0 ≡ cond (opens_in y.1) (opened_known w u (Ok r) (known u s) (guarantee_hidden o)) (known u s)
+        known u y.0 ≡ cond (opens_in y.1) (opened_known w u (Ok r) (known u s) (order_without o)) (known u s)
     accepted_opening None r = opened_follows s o r
     accepted_opening (Some f) r = refl
 
     opening_by : (a : Option (Refusal F)) (b : Result RangePrices RangeRefusal) (g : RangePrices → Option (Refusal F))
         → let y = outcome (unless a (and_then (range_told b) (λ r. unless (g r) (Ok r)))) s (opened_with w s o) tells in
-        known u y.0 ≡ cond (opens_in y.1) (opened_known w u b (known u s) (guarantee_hidden o)) (known u s)
+        known u y.0 ≡ cond (opens_in y.1) (opened_known w u b (known u s) (order_without o)) (known u s)
     opening_by (Some f) b g = refl
     opening_by None (Err f) g = refl
     opening_by None (Ok r) g = accepted_opening (g r) r
 
-  pub opening_follows : (s : RoomState P Q) (o : PairedOrder) → let y = opening w s o in known u y.0 ≡ opening_known w u (opens_in y.1) (known u s) (guarantee_hidden o)
+  pub opening_follows : (s : RoomState P Q) (o : PairedOrder) → let y = opening w s o in known u y.0 ≡ opening_known w u (opens_in y.1) (known u s) (order_without o)
   opening_follows s o =
       opening_by s o _ (room_refusal s.halted s.waiting) (permitted o.side o.limit (w.market.shows s.position)) (guarantee_refusal o s.opened)
 

@@ -1,6 +1,6 @@
 -- Each call: what a member knows after it, and what it is shown of the answer, follow from what it knew before, from the
 -- call without what is hidden, from whether it opened an auction, and from whether one ended.
-use Rattle.std.proofs.Common.{◌≡◌, ℕ, ◌≤◌, Bool, true, false, cond, ◌&&◌, ◌||◌, eqb, Some, None, Option, Result, sym, refl, ap, ◌∙◌, subst}
+use Rattle.std.proofs.Common.{◌≡◌, ℕ, ◌≤◌, Bool, true, false, cond, eqb, Some, None, Option, Result, sym, refl, ap, ◌∙◌, subst}
 use Rattle.std.proofs.lemmas.Bool.{cond-true, cond-false, eqb-true}
 use Rattle.std.proofs.lemmas.List.{length-map}
 use Rattle.std.specs.Option.{option_map}
@@ -11,7 +11,7 @@ use Rattle.room.specs.declared.requests.ChangeRequest.{ChangeRequest}
 use Rattle.room.specs.declared.requests.OpeningRequest.{OpeningRequest}
 use Rattle.room.specs.declared.requests.ResponseRequest.{ResponseRequest}
 use Rattle.room.specs.declared.requests.WithdrawRequest.{WithdrawRequest}
-use Rattle.room.specs.Checks.{price_ok, size_ok, open_checks, respond_checks, change_checks, withdraw_checks, time_checks}
+use Rattle.room.specs.Checks.{open_checks, respond_checks, change_checks, withdraw_checks, time_checks}
 use Rattle.room.specs.Clock.{clocked, timed}
 use Rattle.room.specs.Looks.{auction_view, look_call}
 use Rattle.room.specs.Openings.{opening, open_call}
@@ -21,8 +21,9 @@ use Rattle.room.specs.Ticks.{ticking}
 use Rattle.room.specs.World.{World}
 use Rattle.session.specs.declared.calls.Call.{Call}
 use Rattle.session.specs.declared.calls.Call.TheVariants.{Open, Respond, Change, Withdraw, Tick, Halt, Resume, Clock, Look, Collect}
-use Rattle.session.specs.Learning.{opening_hidden, response_hidden, change_hidden, hidden_from, hidden_in_limits, seen_by, opens_here, ends_here}
+use Rattle.session.specs.Learning.{seen_by, opens_here, ends_here}
 use Rattle.session.specs.Runs.{Answer, Stored, Looked, answered, step, moment}
+use Rattle.session.proofs.Learning.Hidden.{opening_without, response_without, change_without, without_hidden}
 use Rattle.session.proofs.Learning.Known.{Known, known, known_auction, settled, ended_known, with_halted_known, later_known, timed_known, opening_known, ticking_known, responding_known, changing_known, withdrawing_known, view_known, look_known, shown_whole, known_step}
 use Rattle.session.proofs.Learning.Endings.{ends_in, ends_here_is, ended_follows, clocked_follows, ends_after_clock}
 use Rattle.session.proofs.Learning.OthersCalls.{opens_in, others_responding, others_changing, others_withdrawing, ticking_follows, ticking_over, opening_follows, collecting_follows}
@@ -61,20 +62,20 @@ module _ {P T F Q : Type 0} (w : World P T F Q) (u : ℕ) (s : RoomState P Q) wh
   -- An opening.
   opens_later : (r : Option (Refusal F)) (x : OpeningRequest)
       → let y = timed r s x.time (λ z. opening w z x.order) in
-      known u y.0 ≡ later_known r (known u s) x.time (λ j. opening_known w u (opens_in y.1) j (opening_hidden x).order)
+      known u y.0 ≡ later_known r (known u s) x.time (λ j. opening_known w u (opens_in y.1) j (opening_without x).order)
   opens_later None x =
       let z = clocked s x.time in
       opening_follows w u z x.order
-      ∙ ap (λ j. opening_known w u (opens_in (opening w z x.order).1) j (opening_hidden x).order) (clocked_follows u s x.time)
+      ∙ ap (λ j. opening_known w u (opens_in (opening w z x.order).1) j (opening_without x).order) (clocked_follows u s x.time)
   opens_later (Some e) x = refl
 
-  open_follows : (x : OpeningRequest) → price_ok x.order.guarantee.price ≡ true
+  open_follows : (x : OpeningRequest)
       → let y = open_call w s x in
-      known u y.0 ≡ later_known (open_checks {F = F} (opening_hidden x)) (known u s) x.time (λ j. opening_known w u (opens_in y.1) j (opening_hidden x).order)
-  open_follows x h =
+      known u y.0 ≡ later_known (open_checks {F = F} (opening_without x)) (known u s) x.time (λ j. opening_known w u (opens_in y.1) j (opening_without x).order)
+  open_follows x =
       let opens = opens_in (open_call w s x).1 in
       opens_later (open_checks x) x
-      ∙ ap (λ r. later_known r (known u s) x.time (λ j. opening_known w u opens j (opening_hidden x).order)) (open_checks_same F x h)
+      ∙ ap (λ r. later_known r (known u s) x.time (λ j. opening_known w u opens j (opening_without x).order)) (open_checks_same F x)
 
   -- A response: the member's own, or another's.
   responds_later : (r : Option (Refusal F)) (x : ResponseRequest) → (r ≡ None → 1 ≤ x.member) → eqb x.member u ≡ false
@@ -87,24 +88,24 @@ module _ {P T F Q : Type 0} (w : World P T F Q) (u : ℕ) (s : RoomState P Q) wh
       ∙ ap (settled (ends_in s.current z.current)) (clocked_follows u s x.time)
   responds_later (Some e) x g h = refl
 
-  respond_by : (b : Bool) (x : ResponseRequest) → eqb x.member u ≡ b → (b || (price_ok x.price && size_ok x.size)) ≡ true
+  respond_by : (b : Bool) (x : ResponseRequest) → eqb x.member u ≡ b
       → let y = respond_call {F = F} s x in
       (known u y.0, cond b (Some (answered Stored y.1)) None)
-      ≡ known_step w u false (ends_in s.current y.0.current) (known u s) (Respond (cond b x (response_hidden x)))
-  respond_by true x h l = own_shown x.member (respond_checks x) x.time (respond_call s x) (λ k. responding_known k x) _ h (own_responds F s x)
-  respond_by false x h l =
+      ≡ known_step w u false (ends_in s.current y.0.current) (known u s) (Respond (response_without b x))
+  respond_by true x h = own_shown x.member (respond_checks x) x.time (respond_call s x) (λ k. responding_known k x) _ h (own_responds F s x)
+  respond_by false x h =
       let goes = settled (ends_in s.current (respond_call {F = F} s x).0.current) in
-      others_shown x.member _ _ _ h (responds_later (respond_checks x) x (responding_member F x) h ∙ ap (λ r. later_known r (known u s) x.time goes) (respond_checks_same F x l))
+      others_shown x.member _ _ _ h (responds_later (respond_checks x) x (responding_member F x) h ∙ ap (λ r. later_known r (known u s) x.time goes) (respond_checks_same F x))
 
   -- A change.
-  change_by : (b : Bool) (x : ChangeRequest) → eqb x.member u ≡ b → (b || (price_ok x.price && size_ok x.size)) ≡ true
+  change_by : (b : Bool) (x : ChangeRequest) → eqb x.member u ≡ b
       → let y = change_call {F = F} s x in
-      (known u y.0, cond b (Some (answered Stored y.1)) None) ≡ known_step w u false false (known u s) (Change (cond b x (change_hidden x)))
-  change_by true x h l = own_shown x.member (change_checks x) x.time (change_call s x) (λ k. changing_known k x) _ h (own_changes F s x)
-  change_by false x h l =
+      (known u y.0, cond b (Some (answered Stored y.1)) None) ≡ known_step w u false false (known u s) (Change (change_without b x))
+  change_by true x h = own_shown x.member (change_checks x) x.time (change_call s x) (λ k. changing_known k x) _ h (own_changes F s x)
+  change_by false x h =
       others_shown x.member _ _ _ h
       (later_follows (change_checks x) x.time (λ v. changing v x) (λ k. k) (λ e v. others_changing F u v x (changing_member F x e) h)
-      ∙ ap (λ r. later_known r (known u s) x.time (λ k. k)) (change_checks_same F x l))
+      ∙ ap (λ r. later_known r (known u s) x.time (λ k. k)) (change_checks_same F x))
 
   -- A withdrawal.
   withdraw_by : (b : Bool) (x : WithdrawRequest) → eqb x.member u ≡ b
@@ -131,24 +132,24 @@ module _ {P T F Q : Type 0} (w : World P T F Q) (u : ℕ) (s : RoomState P Q) wh
       ap (λ n. record { time = s.time; halted = s.halted; waiting = n; auction = option_map auction_view s.current }) (sym (length-map s.waiting (λ (e : EndedAuction). e.number)))
       ∙ ap (λ a. record { time = s.time; halted = s.halted; waiting = (look_known (known u s)).waiting; auction = a }) (view_follows u s.current)
 
-  call_follows : (c : Call T) → hidden_in_limits u c ≡ true
+  call_follows : (c : Call T)
       → (known u (step w s c).0, seen_by u (moment w s c))
-      ≡ known_step w u (opens_here (moment w s c)) (ends_in s.current (step w s c).0.current) (known u s) (hidden_from u c)
-  call_follows (Open x) l = ap (λ k. (k, None)) (open_follows x l)
-  call_follows (Respond x) l = respond_by (eqb x.member u) x refl l
-  call_follows (Change x) l = change_by (eqb x.member u) x refl l
-  call_follows (Withdraw x) l = withdraw_by (eqb x.member u) x refl
-  call_follows (Tick t x) l = ap (λ k. (k, None)) (ticks_later (time_checks t) t x)
-  call_follows (Halt t) l =
+      ≡ known_step w u (opens_here (moment w s c)) (ends_in s.current (step w s c).0.current) (known u s) (without_hidden u c)
+  call_follows (Open x) = ap (λ k. (k, None)) (open_follows x)
+  call_follows (Respond x) = respond_by (eqb x.member u) x refl
+  call_follows (Change x) = change_by (eqb x.member u) x refl
+  call_follows (Withdraw x) = withdraw_by (eqb x.member u) x refl
+  call_follows (Tick t x) = ap (λ k. (k, None)) (ticks_later (time_checks t) t x)
+  call_follows (Halt t) =
       ap (λ k. (k, None)) (later_follows {R = Refusal F} (time_checks t) t _ (λ j. with_halted_known true (ended_known j)) (λ e z. ap (with_halted_known true) (ended_follows u Halted z)))
-  call_follows (Resume t) l = ap (λ k. (k, None)) (later_follows {R = Refusal F} (time_checks t) t _ (with_halted_known false) (λ e z. refl))
-  call_follows (Clock t) l = ap (λ k. (k, None)) (later_follows {R = Refusal F} (time_checks t) t _ (λ j. j) (λ e z. refl))
-  call_follows Look l = ap (λ v. (known u s, Some (Looked v))) look_follows
-  call_follows (Collect c n) l = ap (λ k. (k, None)) (collecting_follows w u s c n)
+  call_follows (Resume t) = ap (λ k. (k, None)) (later_follows {R = Refusal F} (time_checks t) t _ (with_halted_known false) (λ e z. refl))
+  call_follows (Clock t) = ap (λ k. (k, None)) (later_follows {R = Refusal F} (time_checks t) t _ (λ j. j) (λ e z. refl))
+  call_follows Look = ap (λ v. (known u s, Some (Looked v))) look_follows
+  call_follows (Collect c n) = ap (λ k. (k, None)) (collecting_follows w u s c n)
 
-  pub follows : (c : Call T) → hidden_in_limits u c ≡ true
+  pub follows : (c : Call T)
       → (known u (step w s c).0, seen_by u (moment w s c))
-      ≡ known_step w u (opens_here (moment w s c)) (ends_here (moment w s c)) (known u s) (hidden_from u c)
-  follows c l =
-      call_follows c l
-      ∙ ap (λ e. known_step w u (opens_here (moment w s c)) e (known u s) (hidden_from u c)) (sym (ends_here_is (moment w s c)))
+      ≡ known_step w u (opens_here (moment w s c)) (ends_here (moment w s c)) (known u s) (without_hidden u c)
+  follows c =
+      call_follows c
+      ∙ ap (λ e. known_step w u (opens_here (moment w s c)) e (known u s) (without_hidden u c)) (sym (ends_here_is (moment w s c)))

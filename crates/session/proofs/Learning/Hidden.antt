@@ -1,0 +1,93 @@
+-- A call without what is hidden from a member. Calls that are alike to the member are equal without it.
+use Rattle.std.proofs.Common.{◌≡◌, inl, inr, ℕ, Bool, cond, not, ◌&&◌, pos, eqb, sym, refl, ap, ◌∙◌}
+use Rattle.std.proofs.lemmas.Bool.{cond-true}
+use Rattle.allocation.specs.declared.order.Guarantee.{Guarantee}
+use Rattle.allocation.specs.declared.order.GuaranteeKind.TheVariants.{SingleStop}
+use Rattle.allocation.specs.declared.order.PairedOrder.{PairedOrder}
+use Rattle.allocation.specs.declared.response.Class.TheVariants.{Customer}
+use Rattle.room.specs.declared.requests.ChangeRequest.{ChangeRequest}
+use Rattle.room.specs.declared.requests.OpeningRequest.{OpeningRequest}
+use Rattle.room.specs.declared.requests.ResponseRequest.{ResponseRequest}
+use Rattle.room.specs.Checks.{price_ok, size_ok}
+use Rattle.session.specs.declared.calls.Call.{Call}
+use Rattle.session.specs.declared.calls.Call.TheVariants.{Open, Respond, Change, Withdraw, Tick, Halt, Resume, Clock, Look, Collect}
+use Rattle.session.specs.Learning.{HiddenOrEqual, guarantee_hidden, class_ok, OpeningsAlike, ResponsesAlike, ChangesAlike, Alike}
+
+-- A term, or what stands in its place where it is hidden.
+abbrev pub kept_unless : {X : Type 0} → (X → Bool) → X → X → X
+kept_unless hidden blank x = cond (hidden x) blank x
+
+abbrev pub no_guarantee : Guarantee
+no_guarantee = record { kind = SingleStop; price = pos 0 }
+
+abbrev pub order_without : PairedOrder → PairedOrder
+order_without o = record { side = o.side; size = o.size; limit = o.limit; guarantee = kept_unless guarantee_hidden no_guarantee o.guarantee }
+
+abbrev pub opening_without : OpeningRequest → OpeningRequest
+opening_without x = record { time = x.time; member = x.member; order = order_without x.order }
+
+-- Of a response or change of another member. It is said first whether it is the member's own.
+abbrev another_and : {X : Type 0} → Bool → (X → Bool) → X → Bool
+another_and is_own in_limits x = not is_own && in_limits x
+
+abbrev pub response_without : Bool → ResponseRequest → ResponseRequest
+response_without is_own x = record {
+  time = x.time;
+  member = x.member;
+  own = x.own;
+  side = x.side;
+  kind = x.kind;
+  class = kept_unless (another_and is_own class_ok) Customer x.class;
+  size = kept_unless (another_and is_own size_ok) 1 x.size;
+  price = kept_unless (another_and is_own price_ok) (pos 0) x.price;
+}
+
+abbrev pub change_without : Bool → ChangeRequest → ChangeRequest
+change_without is_own x = record {
+  time = x.time;
+  member = x.member;
+  own = x.own;
+  size = kept_unless (another_and is_own size_ok) 1 x.size;
+  price = kept_unless (another_and is_own price_ok) (pos 0) x.price;
+}
+
+abbrev pub without_hidden : {T : Type 0} → ℕ → Call T → Call T
+without_hidden u (Open x) = Open (opening_without x)
+without_hidden u (Respond x) = Respond (response_without (eqb x.member u) x)
+without_hidden u (Change x) = Change (change_without (eqb x.member u) x)
+without_hidden u (Withdraw x) = Withdraw x
+without_hidden u (Tick t x) = Tick t x
+without_hidden u (Halt t) = Halt t
+without_hidden u (Resume t) = Resume t
+without_hidden u (Clock t) = Clock t
+without_hidden u Look = Look
+without_hidden u (Collect c n) = Collect c n
+
+-- A term that is hidden on both sides, or equal, is equal where what is hidden is left out.
+same_kept : {X : Type 0} (hidden : X → Bool) (blank x y : X) → HiddenOrEqual hidden x y → kept_unless hidden blank x ≡ kept_unless hidden blank y
+same_kept hidden blank x y (inl h) = cond-true (hidden x) blank x h.0 ∙ sym (cond-true (hidden y) blank y h.1)
+same_kept hidden blank x y (inr e) = ap (kept_unless hidden blank) e
+
+openings_same : (x y : OpeningRequest) → OpeningsAlike x y → opening_without x ≡ opening_without y
+openings_same x y a =
+    rw (a.time, a.member, a.side, a.size, a.limit, same_kept guarantee_hidden no_guarantee x.order.guarantee y.order.guarantee a.guarantee) refl
+
+responses_same : (u : ℕ) (x y : ResponseRequest) → ResponsesAlike u x y → response_without (eqb x.member u) x ≡ response_without (eqb y.member u) y
+responses_same u x y a =
+    let own = eqb x.member u in
+    rw
+    (same_kept (another_and own price_ok) (pos 0) x.price y.price a.price, same_kept (another_and own size_ok) 1 x.size y.size a.size, same_kept (another_and own class_ok) Customer x.class y.class a.class, a.time, a.member, a.own, a.side, a.kind)
+    refl
+
+changes_same : (u : ℕ) (x y : ChangeRequest) → ChangesAlike u x y → change_without (eqb x.member u) x ≡ change_without (eqb y.member u) y
+changes_same u x y a =
+    let own = eqb x.member u in
+    rw
+    (same_kept (another_and own price_ok) (pos 0) x.price y.price a.price, same_kept (another_and own size_ok) 1 x.size y.size a.size, a.time, a.member, a.own)
+    refl
+
+pub same_without_hidden : {T : Type 0} (u : ℕ) (c d : Call T) → Alike u c d → without_hidden u c ≡ without_hidden u d
+same_without_hidden u (Open x) (Open y) a = ap Open (openings_same x y a)
+same_without_hidden u (Respond x) (Respond y) a = ap Respond (responses_same u x y a)
+same_without_hidden u (Change x) (Change y) a = ap Change (changes_same u x y a)
+same_without_hidden u c d a = ap (without_hidden u) a
