@@ -120,6 +120,92 @@ NoClaimTellsNothing =
     × (map (seen_if_made 5) (session_of_day stop_day) ≡ None ∷ shown_to_member_5 ++ None ∷ [])
     × (map (seen_if_made 5) (session_of_day auto_match_day) ≡ None ∷ shown_to_member_5 ++ None ∷ [])
 
+-- A guarantee of 40,000,001 and another member's size of 0 are not hidden, since they are refused. Here they are equal in two
+-- days, and stand between looks; so does a change at 40,000,001. A stop of 300; member 2 is a customer with 10 at 299. At 294
+-- member 5 gets its 20, at 299 member 2 its 10, and the contra takes the other 70 at 300.
+abbrev pub stop_day_with_refusals : List Line
+stop_day_with_refusals =
+    looks ⇒ none_open 0 0
+    ∷ buys 9000 100 310 (stop 40000001) ⇒ refused 2
+    ∷ looks ⇒ none_open 0 0
+    ∷ buys 10000 100 310 (stop 300) ⇒ claim 1
+    ∷ offers Sealed Customer 10010 2 1 0 299 ⇒ refused 3
+    ∷ looks ⇒ one_open 10000 0 (viewed 1 Buy 100 304)
+    ∷ offers Sealed Customer 10020 2 1 10 299 ⇒ stored 10 299
+    ∷ offers Sealed Other 10030 5 1 20 290 ⇒ stored 20 294
+    ∷ changes 10040 2 1 5 40000001 ⇒ refused 2
+    ∷ looks ⇒ one_open 10030 0 (viewed 1 Buy 100 304)
+    ∷ changes 10050 5 1 0 290 ⇒ refused 3
+    ∷ clock 10100 ⇒ accepted
+    ∷ looks ⇒ none_open 10100 1
+    ∷ collects 1 ⇒ collected 3 Deadline (row Sealed Other 5 1 294 20 0 ∷ row Sealed Customer 2 1 299 10 0 ∷ contra_row 300 70 ∷ [])
+    ∷ []
+
+-- An auto-match limit of 298; member 2, not a customer, has 99 at 304. The price and the class beside the size of 0 are
+-- others, and so is the size beside the price of 40,000,001. At 294 member 5 gets its 20; at 304 the contra takes its share of
+-- 40, and member 2 gets the other 40.
+abbrev pub auto_match_day_with_refusals : List Line
+auto_match_day_with_refusals =
+    looks ⇒ none_open 0 0
+    ∷ buys 9000 100 310 (stop 40000001) ⇒ refused 2
+    ∷ looks ⇒ none_open 0 0
+    ∷ buys 10000 100 310 (auto_match 298) ⇒ claim 1
+    ∷ offers Sealed Other 10010 2 1 0 304 ⇒ refused 3
+    ∷ looks ⇒ one_open 10000 0 (viewed 1 Buy 100 304)
+    ∷ offers Sealed Other 10020 2 1 99 304 ⇒ stored 99 304
+    ∷ offers Sealed Other 10030 5 1 20 290 ⇒ stored 20 294
+    ∷ changes 10040 2 1 7 40000001 ⇒ refused 2
+    ∷ looks ⇒ one_open 10030 0 (viewed 1 Buy 100 304)
+    ∷ changes 10050 5 1 0 290 ⇒ refused 3
+    ∷ clock 10100 ⇒ accepted
+    ∷ looks ⇒ none_open 10100 1
+    ∷ collects 1 ⇒ collected 3 Deadline (row Sealed Other 5 1 294 20 0 ∷ contra_row 304 40 ∷ row Sealed Other 2 1 304 40 59 ∷ [])
+    ∷ []
+
+-- Behind the three first quotes an auction opens in both at the seventh call, and ends at the fifteenth.
+abbrev pub openings_with_refusals : List Bool
+openings_with_refusals =
+    false ∷ false ∷ false ∷ false ∷ false ∷ false ∷ true ∷ false ∷ false ∷ false ∷ false ∷ false ∷ false ∷ false ∷ false ∷ false ∷ false ∷ []
+
+abbrev pub ends_with_refusals : List Bool
+ends_with_refusals =
+    false ∷ false ∷ false ∷ false ∷ false ∷ false ∷ false ∷ false ∷ false ∷ false ∷ false ∷ false ∷ false ∷ false ∷ true ∷ false ∷ false ∷ []
+
+-- What member 5 is shown in both.
+abbrev pub shown_with_refusals : List (Option CubeAnswer)
+shown_with_refusals =
+    None
+    ∷ None
+    ∷ None
+    ∷ Some (none_open 0 0)
+    ∷ None
+    ∷ Some (none_open 0 0)
+    ∷ None
+    ∷ None
+    ∷ Some (one_open 10000 0 (viewed 1 Buy 100 304))
+    ∷ None
+    ∷ Some (stored 20 294)
+    ∷ None
+    ∷ Some (one_open 10030 0 (viewed 1 Buy 100 304))
+    ∷ Some (refused 3)
+    ∷ None
+    ∷ Some (none_open 10100 1)
+    ∷ None
+    ∷ []
+
+-- The two days are alike to member 5, and it is shown the same.
+abbrev pub WhatIsRefusedIsEqual : Type 0
+WhatIsRefusedIsEqual =
+    Day stop_day_with_refusals
+    × Day auto_match_day_with_refusals
+    × AllAlike 5 (day_calls stop_day_with_refusals) (day_calls auto_match_day_with_refusals)
+    × (map opens_here (moments stop_day_with_refusals) ≡ openings_with_refusals)
+    × (map opens_here (moments auto_match_day_with_refusals) ≡ openings_with_refusals)
+    × (map ends_here (moments stop_day_with_refusals) ≡ ends_with_refusals)
+    × (map ends_here (moments auto_match_day_with_refusals) ≡ ends_with_refusals)
+    × (map (seen_by 5) (moments stop_day_with_refusals) ≡ shown_with_refusals)
+    × (map (seen_by 5) (moments auto_match_day_with_refusals) ≡ shown_with_refusals)
+
 -- A day with a stop of 300, and one with a stop of 302.
 abbrev pub stop_300_day : List Line
 stop_300_day =
@@ -142,4 +228,4 @@ TheEndOfAnAuctionTells = Day stop_300_day × Day stop_302_day × AllAlike 5 (day
 
 -- The list.
 abbrev pub LearningInRuns : Type 0
-LearningInRuns = Member5IsShownTheSame × NoClaimTellsNothing × TheEndOfAnAuctionTells
+LearningInRuns = Member5IsShownTheSame × NoClaimTellsNothing × WhatIsRefusedIsEqual × TheEndOfAnAuctionTells
