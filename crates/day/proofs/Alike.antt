@@ -6,7 +6,7 @@ use Rattle.std.specs.Option.{option_map}
 use Rattle.day.specs.declared.lines.Line.{Line}
 use Rattle.day.specs.declared.lines.Said.{Said}
 use Rattle.day.specs.declared.lines.Said.TheVariants.{Replied, Call, Range}
-use Rattle.day.specs.Alike.{SaidAlike, LinesAlike, MemberReadsTheSame}
+use Rattle.day.specs.Alike.{SaidAlike, LinesAlike, ScriptAlikeToItself, MemberReadsTheSame}
 use Rattle.day.specs.Calls.{call_in, calls_in}
 use Rattle.day.specs.CarriedOut.{world_in, at_first}
 use Rattle.day.specs.ForMember.{transcript_line, answered_line, line_for, answers_behind, text_for}
@@ -29,6 +29,7 @@ use Rattle.session.specs.Runs.{Answer, Moment, Opened, Stored, Accepted, Looked,
 use Rattle.session.specs.SessionLearning.{seen_if_made}
 use Rattle.session.specs.Sessions.{Session, session_after, session_moment, session_moments}
 use Rattle.session.specs.Told.{told}
+use Rattle.session.proofs.Learning.Alike.{one_to_itself}
 
 -- The text of an answer by what it tells.
 abbrev told_text : Option (Answer (Half Fault Fault)) → List ℕ
@@ -193,6 +194,16 @@ calls_alike u room [] (m ∷ ms) alike = absurd alike
 calls_alike u room (l ∷ ls) [] alike = absurd alike
 calls_alike u room (l ∷ ls) (m ∷ ms) alike =
     calls_with u room l.said m.said (calls_in room ls) (calls_in room ms) alike.1 (calls_alike u room ls ms alike.2)
+
+-- Every script is alike to itself, as its calls are.
+said_alike_to_itself : (u room : ℕ) (x : Said) → SaidAlike u room x x
+said_alike_to_itself u room (Call c) = one_to_itself u (call_of room c)
+said_alike_to_itself u room (Replied r) = tt
+said_alike_to_itself u room (Range q) = tt
+
+pub script_alike_to_itself : ScriptAlikeToItself
+script_alike_to_itself u room [] = tt
+script_alike_to_itself u room (l ∷ ls) = (refl, said_alike_to_itself u room l.said, script_alike_to_itself u room ls)
 
 pub reads_the_same : MemberReadsTheSame
 reads_the_same u terms ls ms text other one two alike opens ends =

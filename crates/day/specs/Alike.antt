@@ -31,6 +31,10 @@ LinesAlike member room [] (m ∷ ms) = ⊥
 LinesAlike member room (l ∷ ls) [] = ⊥
 LinesAlike member room (l ∷ ls) (m ∷ ms) = (l.number ≡ m.number) × SaidAlike member room l.said m.said × LinesAlike member room ls ms
 
+-- Every script is alike to itself to each member, whatever in it is outside its limits or not understood.
+abbrev pub ScriptAlikeToItself : Type 0
+ScriptAlikeToItself = (member room : ℕ) (ls : List Line) → LinesAlike member room ls ls
+
 -- Two scripts in rooms of the same terms, whose lines are alike to a member, and in which openings are accepted at the same
 -- places and auctions end at the same places: their texts for the member are the same.
 abbrev pub MemberReadsTheSame : Type 0

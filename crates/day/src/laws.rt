@@ -1,7 +1,8 @@
-// The law of what a member may read, as a contract. This function does nothing.
-ghost use Rattle.day.specs.Alike.{MemberReadsTheSame};
+// The law of what a member may read, as a contract, and that it is said of every script. This function does nothing.
+ghost use Rattle.day.specs.Alike.{MemberReadsTheSame, ScriptAlikeToItself};
 
 // Of any two scripts.
 pub fn members_read_the_same()
-    ensures { MemberReadsTheSame }
+    ensures same { MemberReadsTheSame }
+    ensures alike_to_itself { ScriptAlikeToItself }
 {}

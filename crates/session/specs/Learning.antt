@@ -60,7 +60,7 @@ pub record ChangesAlike (u : ℕ) (x y : ChangeRequest) : Type 0 where
   pub price : HiddenOrEqual (hidden_from u x.member price_ok) x.price y.price
   pub size : HiddenOrEqual (hidden_from u x.member size_ok) x.size y.size
 
--- Two calls that are alike to a member. Of all other calls nothing is hidden.
+-- Two calls that are alike to a member. Of calls of other kinds nothing is hidden: those are alike that are equal.
 abbrev pub Alike : {T : Type 0} → ℕ → Call T → Call T → Type 0
 Alike u (Open x) (Open y) = OpeningsAlike x y
 Alike u (Respond x) (Respond y) = ResponsesAlike u x y

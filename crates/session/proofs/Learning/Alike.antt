@@ -5,7 +5,7 @@ use Rattle.session.specs.declared.calls.Call.{Call}
 use Rattle.session.specs.declared.calls.Call.TheVariants.{Open, Respond, Change}
 use Rattle.session.specs.Learning.{HiddenOrEqual, guarantee_hidden, hidden_from, class_ok, Alike, AlikeToItself, AlikeBothWays}
 
-one_to_itself : {T : Type 0} (u : ℕ) (c : Call T) → Alike u c c
+pub one_to_itself : {T : Type 0} (u : ℕ) (c : Call T) → Alike u c c
 one_to_itself u (Open x) = record { time = refl; member = refl; side = refl; size = refl; limit = refl; guarantee = inr refl }
 one_to_itself u (Respond x) = record { time = refl; member = refl; own = refl; side = refl; kind = refl; price = inr refl; size = inr refl; class = inr refl }
 one_to_itself u (Change x) = record { time = refl; member = refl; own = refl; price = inr refl; size = inr refl }
