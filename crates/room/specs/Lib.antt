@@ -16,3 +16,4 @@ pub mod Counts
 pub mod Places
 pub mod Storing
 pub mod Rooms
+pub mod Parts

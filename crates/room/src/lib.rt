@@ -6,6 +6,7 @@ mod auction;
 pub mod claim;
 mod handed_in;
 mod limits;
+pub mod parts;
 pub mod refusal;
 pub mod requests;
 pub mod room;

@@ -11,6 +11,7 @@ pub mod halts;
 pub mod looks;
 pub mod make;
 pub mod opening;
+pub mod parts;
 pub mod responses;
 pub mod ticks;
 
