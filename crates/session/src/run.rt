@@ -23,9 +23,10 @@ struct Memory<F> {
     answers: Vec<Answer<F>>,
 }
 
-// A list of rows for each collecting, a place for each answer, and a place in the purse for each call.
+// A list of rows for each collecting, a place in the purse for each call, and a place for each answer. The places for the answers
+// come last: an answer may hold a fault that may not be let go, and so may no list of answers, not even an empty one.
 // `calls` is a `&Vec`: a slice of one field of `handed`, lent beside a `&mut` of another, was tried and gets no proof.
-fn take_memory<T, F: Drop>(
+fn take_memory<T, F>(
     heap: Global,
     calls: &Vec<Call<T>>,
     purse: &mut Vec<Claim>,
@@ -36,8 +37,8 @@ fn take_memory<T, F: Drop>(
     ensures claims { purse.new.items ≡ purse.old.items }
 {
     let lists = RowLists::for_calls(heap, calls)?;
-    let answers = Vec::with_capacity(heap, calls.len())?;
     purse.try_reserve(calls.len())?;
+    let answers = Vec::with_capacity(heap, calls.len())?;
     Ok(Memory { lists, answers })
 }
 
@@ -50,7 +51,6 @@ pub fn run<M: Market, R: Ranking, S: IntervalSource>(
 ) -> Result<Finished<M, R, S, M::Fault>, Handed<M, R, S, M::Tick>>
 where
     M::Tick: Drop,
-    M::Fault: Drop,
     ensures { MatchResult result (λ f. RunAsModelled (world_of M.Market.meaning S.IntervalSource.meaning (R.Ranking.ahead handed.ranking)) M.Market.position S.IntervalSource.position handed f) (λ h. HandedBack handed h) }
 {
     let mut handed = handed;
