@@ -90,7 +90,7 @@ quiet_purse Look a purse h g = refl
 quiet_purse (Collect c n) a purse h g = ap (λ (b : Bool). cond b (without_claim c purse) purse) g
 
 -- claims of a room's number are without the claim of an auction as the room is without the auction
-same : (n : ℕ) → eqb n n ≡ true
+pub same : (n : ℕ) → eqb n n ≡ true
 same n = grind (arith, nat_tests)
 
 same_room : (n x a : ℕ) → same_claim (claim_to n x) (claim_to n a) ≡ eqb x a

@@ -19,7 +19,7 @@ use Rattle.session.specs.Desks.{first_of}
 use Rattle.session.specs.Sessions.{given}
 
 -- the first and the rest of a list
-first_is : {X : Type 0} (x y : X) (xs ys : List X) → x ∷ xs ≡ y ∷ ys → (x ≡ y) × (xs ≡ ys)
+pub first_is : {X : Type 0} (x y : X) (xs ys : List X) → x ∷ xs ≡ y ∷ ys → (x ≡ y) × (xs ≡ ys)
 first_is x y xs ys h = (cc, cc)
 
 none_first : {X Y : Type 0} (x : X) (xs : List X) → x ∷ xs ≡ [] → Y

@@ -15,3 +15,4 @@ pub mod Closing
 mod MemoryTaken
 mod CollectsHeld
 mod SessionRuns
+pub mod Promised

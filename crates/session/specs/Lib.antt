@@ -16,6 +16,8 @@ pub mod Purses
 pub mod Told
 pub mod Memory
 pub mod Made
+pub mod Promises
 pub mod Outcomes
 pub mod Desks
+pub mod Closings
 pub mod Days

@@ -4,6 +4,7 @@ ghost use Rattle.std.specs.Option.{option_map};
 ghost use Rattle.room.specs.Rooms.{claim_numbers, state_of, world_of};
 ghost use Rattle.room.specs.State.{with_waiting};
 ghost use Rattle.session.specs.Claims.{claims_of_room};
+ghost use Rattle.session.specs.Closings.{ClosedByCalls};
 ghost use Rattle.session.specs.Desks.{closed_told, listed_told, first_of, told_of_waiting, told_at_close, after_close};
 
 use super::{Closed, ClosedAuction, Desk};
@@ -53,6 +54,7 @@ fn collect_first<M: Market, R: Ranking, S: IntervalSource>(
 impl<M: Market, R: Ranking, S: IntervalSource> Desk<M, R, S> {
     // Halts the room at its own time, and collects each auction that then waits.
     pub fn close(self) -> Closed<M, R, S>
+        ensures as_calls { ClosedByCalls (world_of M.Market.meaning S.IntervalSource.meaning (R.Ranking.ahead self.session.room.ranking)) (state_of M.Market.position S.IntervalSource.position self.session.room) (listed_told result.first result.second) (state_of M.Market.position S.IntervalSource.position result.room) }
         ensures told { listed_told result.first result.second ≡ told_at_close (world_of M.Market.meaning S.IntervalSource.meaning (R.Ranking.ahead self.session.room.ranking)) (state_of M.Market.position S.IntervalSource.position self.session.room) }
         ensures state { state_of M.Market.position S.IntervalSource.position result.room ≡ after_close (world_of M.Market.meaning S.IntervalSource.meaning (R.Ranking.ahead self.session.room.ranking)) (state_of M.Market.position S.IntervalSource.position self.session.room) }
         ensures ranking { result.room.ranking ≡ self.session.room.ranking }

@@ -1,5 +1,5 @@
 -- After the halt none is open; each auction that waits is told, the oldest first, the room then holds none, and no claim is
--- left.
+-- left. So it is after the calls of the close.
 use Rattle.std.proofs.Common.{[], refl, ap, ◌∙◌}
 use Rattle.room.specs.Rooms.{claim_numbers, state_of, world_of}
 use Rattle.room.specs.State.{RoomState, with_waiting}
@@ -7,6 +7,7 @@ use Rattle.room.specs.World.{World}
 use Rattle.session.specs.Claims.{claims_to}
 use Rattle.session.specs.Desks.{first_of, told_of_ended, told_of_waiting}
 use Rattle.session.proofs.Closing.{two_told, emptied, none_left, none_of_none}
+use Rattle.session.proofs.Promised.{closed_by_calls}
 use Rattle.session.proofs.desk.Desk.close.Goals as goal
 
 pub destroy_empty-requires : goal.destroy_empty-requires
@@ -34,3 +35,8 @@ pub returns-clause-state : goal.returns-clause-state
 returns-clause-state g c =
     let halted = state_of g.M.Market.position g.S.IntervalSource.position c.halt.new.self in
     emptied c.halt.new.self.first c.halt.new.self.second halted _ _ refl c.collect_first-first.ensures.state c.collect_first-second.ensures.state ∙ ap (with_waiting []) c.halt.ensures.state
+
+pub returns-clause-as_calls : goal.returns-clause-as_calls
+returns-clause-as_calls g c =
+    let w = world_of g.M.Market.meaning g.S.IntervalSource.meaning (g.R.Ranking.ahead c.args.self.session.room.ranking) in
+    closed_by_calls w (state_of g.M.Market.position g.S.IntervalSource.position c.args.self.session.room) _ _ (returns-clause-told g c) (returns-clause-state g c)
