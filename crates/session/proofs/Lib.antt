@@ -16,3 +16,5 @@ mod MemoryTaken
 mod CollectsHeld
 mod SessionRuns
 pub mod Promised
+pub mod InTurn
+pub mod DeskInTurn

@@ -8,7 +8,7 @@ use Rattle.room.specs.World.{World, Terms}
 use Rattle.session.specs.declared.calls.Call.{Call}
 use Rattle.session.specs.declared.calls.Call.TheVariants.{Halt, Collect}
 use Rattle.session.specs.Claims.{claim_to, claims_to}
-use Rattle.session.specs.Closings.{collecting, collecting_answer, closing_calls, closing_answers, closed_at_once, ClosedByCalls}
+use Rattle.session.specs.Closings.{collecting, collecting_answer, closing_calls, closing_answers, with_close, ClosedByCalls}
 use Rattle.session.specs.Desks.{ToldAtClose, at_desk, told_of_ended, halted_last, told_at_close, after_close, desk_after, desk_answer}
 use Rattle.session.specs.Promises.{Carried, WholePromise, at_first, made_of}
 use Rattle.session.specs.Runs.{Collected, answered, step}
@@ -119,22 +119,22 @@ module _ {P T F Q : Type 0} (w : World P T F Q) where
       subst (λ l. ClosedByCalls w s l room) (sym told) (subst (λ r. ClosedByCalls w s (told_at_close w s) r) (sym state) (desk_closed s))
 
   -- so what holds of calls holds of them with those of the close
-  pub closed_modelled : (c : Carried P T F Q) → c.start.purse ≡ [] → Modelled w c → Modelled w (closed_at_once w c)
-  closed_modelled c none h =
+  pub closed_modelled : (c : Carried P T F Q) (ts : List ToldAtClose) (room : RoomState P Q) → c.start.purse ≡ [] → Modelled w c → ClosedByCalls w c.room ts room → Modelled w (with_close c ts room)
+  closed_modelled c ts room none h did =
       let first = at_first c.start in
-      let closing : List (Call T) = closing_calls (told_at_close w c.room) in
+      let closing : List (Call T) = closing_calls ts in
       let end : session_end w first c.calls ≡ at_desk c.room = is_desk (session_end w first c.calls) (match_at_end w first c.calls none) ∙ ap at_desk (sym h.room) in
-      let did = desk_closed c.room in
-      let last : session_end w first (c.calls ++ closing) ≡ session_of (after_close w c.room) [] = end_behind first c.calls closing ∙ ap (λ t. session_end w t closing) end ∙ did.end in
+      let last : session_end w first (c.calls ++ closing) ≡ session_of room [] = end_behind first c.calls closing ∙ ap (λ t. session_end w t closing) end ∙ did.end in
       record {
         answers =
-            ap (λ l. l ++ closing_answers (told_at_close w c.room)) h.answers
+            ap (λ l. l ++ closing_answers ts) h.answers
             ∙ ap (λ l. session_answers w first c.calls ++ l) (sym did.answers ∙ ap (λ t. session_answers w t closing) (sym end))
             ∙ sym (answers_behind first c.calls closing);
         room = sym (ap (λ (s : Session P Q). s.room) last);
         claims = sym (ap (λ (s : Session P Q). s.purse) last);
       }
 
-  pub closed_promised : Terms w → (c : Carried P T F Q) → c.start.purse ≡ [] → WholePromise w c → WholePromise w (closed_at_once w c)
-  closed_promised terms c none h =
-      promised w terms (closed_at_once w c) (closed_modelled c none (record { answers = h.answers; room = h.room; claims = h.claims }))
+  pub closed_promised : Terms w → (c : Carried P T F Q) (ts : List ToldAtClose) (room : RoomState P Q) → c.start.purse ≡ [] → WholePromise w c → ClosedByCalls w c.room ts room
+      → WholePromise w (with_close c ts room)
+  closed_promised terms c ts room none h did =
+      promised w terms (with_close c ts room) (closed_modelled c ts room none (record { answers = h.answers; room = h.room; claims = h.claims }) did)

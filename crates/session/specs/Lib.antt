@@ -20,4 +20,6 @@ pub mod Promises
 pub mod Outcomes
 pub mod Desks
 pub mod Closings
+pub mod InTurn
+pub mod DeskInTurn
 pub mod Days

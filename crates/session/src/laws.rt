@@ -1,5 +1,8 @@
 // The laws over whole runs, as contracts. These functions do nothing.
+ghost use Rattle.room.specs.Rooms.{world_of};
 ghost use Rattle.room.specs.World.{World};
+ghost use Rattle.session.specs.DeskInTurn.{DeskCallsKeepThePromise};
+ghost use Rattle.session.specs.InTurn.{CallsInTurnAreARun};
 ghost use Rattle.session.specs.Laws.{RunLaws};
 
 use allocation::ranking::Ranking;
@@ -9,4 +12,16 @@ use market::market::Market;
 // Of every run of the model of a room over any market, source and ranking, and of what a member may learn in every session.
 pub fn run_laws_hold<M: Market, S: IntervalSource, R: Ranking>(ranking: &R)
     ensures { RunLaws (record { market = M.Market.meaning; source = S.IntervalSource.meaning; ahead = R.Ranking.ahead ranking.now }) }
+{}
+
+/// Whoever calls a room's methods has the laws: calls that are made one after another from the room's making on, each as the
+/// contract of its method says, are a run, and every law of a run holds of them.
+pub fn calls_in_turn_are_a_run<M: Market, S: IntervalSource, R: Ranking>()
+    ensures { CallsInTurnAreARun (λ ranking. world_of M.Market.meaning S.IntervalSource.meaning (R.Ranking.ahead ranking)) M.Market.position S.IntervalSource.position }
+{}
+
+/// Whoever makes calls at a desk has the whole promise of a run: of the calls from the desk's making on, and of these and its
+/// closing.
+pub fn desk_calls_keep_the_promise<M: Market, S: IntervalSource, R: Ranking>()
+    ensures { DeskCallsKeepThePromise (λ ranking. world_of M.Market.meaning S.IntervalSource.meaning (R.Ranking.ahead ranking)) M.Market.position S.IntervalSource.position }
 {}

@@ -5,7 +5,7 @@ use Rattle.room.specs.Rooms.{claim_numbers, state_of, world_of}
 use Rattle.room.specs.World.{Terms}
 use Rattle.session.specs.Promises.{Carried, WholePromise}
 use Rattle.session.specs.Told.{told}
-use Rattle.session.proofs.Promised.{closed_promised}
+use Rattle.session.proofs.Promised.{closed_promised, desk_closed}
 use Rattle.session.proofs.desk.day.run_day.Goals as goal
 
 pub returns-in-Ok : goal.returns-in-Ok
@@ -29,4 +29,5 @@ returns-in-Ok g c =
       one_ahead = g.met.R.Ranking.one_ahead day.ranking;
       carries_on = g.met.R.Ranking.carries_on day.ranking;
     } in
-    record { promise = promise; when_closed = closed_promised w terms (at [] c.new-in-Ok.result.numbers) refl promise; ranking = did.ranking }
+    let carried = at [] c.new-in-Ok.result.numbers in
+    record { promise = promise; when_closed = closed_promised w terms carried _ _ refl promise (desk_closed w carried.room); ranking = did.ranking }

@@ -1,0 +1,65 @@
+-- Calls at a desk, one after another from the desk's making on, each as the contract of `call` says, and its closing.
+use Rattle.std.specs.Prelude.{◌≡◌, ℕ, List, [], ◌∷◌, map}
+use Rattle.room.specs.Rooms.{state_of}
+use Rattle.room.specs.State.{RoomState, new_room}
+use Rattle.room.specs.World.{World}
+use Rattle.session.specs.Closings.{with_close, ClosedByCalls}
+use Rattle.session.specs.declared.answers.Answer.{Answer}
+use Rattle.session.specs.declared.calls.Call.{Call}
+use Rattle.session.specs.declared.desk.Desk.{Desk}
+use Rattle.session.specs.Desks.{ToldAtClose, desk_after, desk_answer}
+use Rattle.session.specs.Promises.{Carried, WholePromise}
+use Rattle.session.specs.Told.{told}
+
+-- A call at a desk: the desk before it and after it, and what it answered. (Where memory was wanting no call was made, and the
+-- desk is as it was.)
+pub record DeskCall (M R S T F : Type 0) : Type 0 where
+  pub before : Desk M R S
+  pub call : Call T
+  pub answer : Answer F
+  pub after : Desk M R S
+
+-- The desk behind the last of some calls.
+abbrev pub last_desk : {M R S T F : Type 0} → Desk M R S → List (DeskCall M R S T F) → Desk M R S
+last_desk d [] = d
+last_desk d (c ∷ cs) = last_desk c.after cs
+
+module _ {M R S P T F Q : Type 0} (world : R → World P T F Q) (position : M → P) (source : S → Q) where
+  abbrev pub room_at : Desk M R S → RoomState P Q
+  room_at d = state_of position source d.session.room
+
+  abbrev pub world_at : Desk M R S → World P T F Q
+  world_at d = world d.session.room.ranking
+
+  -- The clauses of `call`, where it answers.
+  pub record DeskByContract (c : DeskCall M R S T F) : Type 0 where
+    pub state : room_at c.after ≡ desk_after (world_at c.before) (room_at c.before) c.call
+    pub answer : told c.answer ≡ desk_answer (world_at c.before) (room_at c.before) c.call
+    pub ranking : c.after.session.room.ranking ≡ c.before.session.room.ranking
+
+  -- Calls one after another, from a desk on: each finds the room that the one before it left.
+  abbrev pub DeskInTurn : Desk M R S → List (DeskCall M R S T F) → Type 0
+  DeskInTurn d [] = Unit {0}
+  DeskInTurn d (c ∷ cs) = (c.before.session.room ≡ d.session.room) × DeskByContract c × DeskInTurn c.after cs
+
+  -- The calls with their answers, and the room and the claims that the desk then has. A new desk has no claim.
+  abbrev pub desk_carried : ℕ → P → Q → Desk M R S → List (DeskCall M R S T F) → Carried P T F Q
+  desk_carried number p q d cs = record {
+    start = record { number = number; market = p; source = q; purse = [] };
+    calls = map (λ (c : DeskCall M R S T F). c.call) cs;
+    answers = map (λ (c : DeskCall M R S T F). told c.answer) cs;
+    room = room_at (last_desk d cs);
+    claims = (last_desk d cs).session.purse.numbers;
+  }
+
+  -- The whole promise holds of the calls; and on, where the desk is then closed as the contract of `close` says.
+  pub record DeskPromise (w : World P T F Q) (number : ℕ) (p : P) (q : Q) (d : Desk M R S) (cs : List (DeskCall M R S T F)) : Type 0 where
+    pub promise : WholePromise w (desk_carried number p q d cs)
+    pub when_closed : (ts : List ToldAtClose) (room : RoomState P Q) → ClosedByCalls (world_at (last_desk d cs)) (room_at (last_desk d cs)) ts room
+        → WholePromise w (with_close (desk_carried number p q d cs) ts room)
+
+  -- All calls that are made one after another at a desk from its making.
+  abbrev pub DeskCallsKeepThePromise : Type 0
+  DeskCallsKeepThePromise =
+      (number : ℕ) (p : P) (q : Q) (d : Desk M R S) (cs : List (DeskCall M R S T F))
+      → room_at d ≡ new_room number p q → DeskInTurn d cs → DeskPromise (world_at d) number p q d cs
