@@ -8,7 +8,7 @@ use Rattle.day.specs.declared.lines.Said.{Said}
 use Rattle.day.specs.declared.lines.Said.TheVariants.{Replied, Call, Range}
 use Rattle.day.specs.Alike.{SaidAlike, LinesAlike, ScriptAlikeToItself, MemberReadsTheSame}
 use Rattle.day.specs.Calls.{call_in, calls_in}
-use Rattle.day.specs.CarriedOut.{world_in, at_first}
+use Rattle.day.specs.CarriedOut.{world_in, start_in}
 use Rattle.day.specs.ForMember.{transcript_line, answered_line, line_for, answers_behind, text_for}
 use Rattle.market.specs.Cube.{CubePosition}
 use Rattle.market.specs.declared.better_of.Half.{Half}
@@ -26,6 +26,7 @@ use Rattle.session.specs.declared.answers.Answer.TheVariants as code
 use Rattle.session.specs.declared.calls.Call.{Call as RoomCall}
 use Rattle.session.specs.Learning.{AllAlike}
 use Rattle.session.specs.Runs.{Answer, Moment, Opened, Stored, Accepted, Looked, Collected, Refused}
+use Rattle.session.specs.Promises.{at_first}
 use Rattle.session.specs.SessionLearning.{seen_if_made}
 use Rattle.session.specs.Sessions.{Session, session_after, session_moment, session_moments}
 use Rattle.session.specs.Told.{told}
@@ -209,13 +210,13 @@ pub reads_the_same : MemberReadsTheSame
 reads_the_same u terms ls ms text other one two alike opens ends =
     let w = world_in terms in
     let room = terms.number in
-    let first = at_first terms in
-    let laws = one.carried_out.session_laws in
-    let others = two.carried_out.session_laws in
+    let first = at_first (start_in terms) in
+    let laws = one.carried_out.promise.session_laws in
+    let others = two.carried_out.promise.session_laws in
     let seen = laws.learning u (calls_in room ms) (calls_alike u room ls ms alike) opens ends in
     one.written
-    ∙ all_lines w u room ls first (vec_items one.outcome.answers) (one.carried_out.answers ∙ laws.answers)
+    ∙ all_lines w u room ls first (vec_items one.outcome.answers) (one.carried_out.promise.answers ∙ laws.answers)
     ∙ ap (seen_text w ls) seen.shown
     ∙ same_text w u room ls ms (map (seen_if_made u) (moments w room first ms)) alike
-    ∙ sym (all_lines w u room ms first (vec_items two.outcome.answers) (two.carried_out.answers ∙ others.answers))
+    ∙ sym (all_lines w u room ms first (vec_items two.outcome.answers) (two.carried_out.promise.answers ∙ others.answers))
     ∙ sym two.written

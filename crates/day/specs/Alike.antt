@@ -4,11 +4,12 @@ use Rattle.day.specs.declared.lines.Line.{Line}
 use Rattle.day.specs.declared.lines.Said.{Said}
 use Rattle.day.specs.declared.lines.Said.TheVariants.{Replied, Call, Range}
 use Rattle.day.specs.Calls.{calls_in}
-use Rattle.day.specs.CarriedOut.{world_in, at_first}
+use Rattle.day.specs.CarriedOut.{world_in, start_in}
 use Rattle.day.specs.ForMember.{TextFor}
 use Rattle.script.specs.declared.setup.RoomTerms.{RoomTerms}
 use Rattle.script.specs.Statements.{call_of}
 use Rattle.session.specs.Learning.{Alike}
+use Rattle.session.specs.Promises.{at_first}
 use Rattle.session.specs.SessionLearning.{opens_if_made, ends_if_made}
 use Rattle.session.specs.Sessions.{session_moments}
 
@@ -42,8 +43,8 @@ MemberReadsTheSame =
     (member : ℕ) (terms : RoomTerms) (ls ms : List Line) (text other : List ℕ)
     → TextFor member terms ls text → TextFor member terms ms other
     → LinesAlike member terms.number ls ms
-    → map opens_if_made (session_moments (world_in terms) (at_first terms) (calls_in terms.number ls))
-    ≡ map opens_if_made (session_moments (world_in terms) (at_first terms) (calls_in terms.number ms))
-    → map ends_if_made (session_moments (world_in terms) (at_first terms) (calls_in terms.number ls))
-    ≡ map ends_if_made (session_moments (world_in terms) (at_first terms) (calls_in terms.number ms))
+    → map opens_if_made (session_moments (world_in terms) (at_first (start_in terms)) (calls_in terms.number ls))
+    ≡ map opens_if_made (session_moments (world_in terms) (at_first (start_in terms)) (calls_in terms.number ms))
+    → map ends_if_made (session_moments (world_in terms) (at_first (start_in terms)) (calls_in terms.number ls))
+    ≡ map ends_if_made (session_moments (world_in terms) (at_first (start_in terms)) (calls_in terms.number ms))
     → text ≡ other

@@ -8,7 +8,7 @@ use Rattle.day.specs.declared.lines.Said.{Said}
 use Rattle.day.specs.declared.lines.Said.TheVariants.{Replied, Call, Range}
 use Rattle.day.specs.declared.outcome.Outcome.{Outcome}
 use Rattle.day.specs.Calls.{calls_in}
-use Rattle.day.specs.CarriedOut.{CarriedOut, world_in, at_first}
+use Rattle.day.specs.CarriedOut.{CarriedOut, told_at_end}
 use Rattle.day.specs.ForMember.{transcript_line, answers_behind}
 use Rattle.day.specs.Lines.{told_behind_lines, room_of, script_lines}
 use Rattle.market.specs.Cube.{CubePosition, cube_meaning, cube_start}
@@ -25,8 +25,7 @@ use Rattle.script.specs.Setups.{nothing_told, room_in, room_told}
 use Rattle.script.specs.Texts.{answer_text, collected_text}
 use Rattle.session.specs.declared.answers.Answer.{Answer}
 use Rattle.session.specs.declared.answers.Answer.TheVariants.{Accepted}
-use Rattle.session.specs.Desks.{ToldAtClose, told_at_close}
-use Rattle.session.specs.Sessions.{session_end}
+use Rattle.session.specs.Desks.{ToldAtClose}
 
 -- The market behind a call: it takes a tick that the room accepted, and nothing else.
 abbrev pub market_after : CubePosition → CallStatement → Answer (Half Fault Fault) → CubePosition
@@ -69,8 +68,7 @@ end_lines ts = flat_map end_line ts
 pub record WholeTextOf (terms : RoomTerms) (ls : List Line) (text : List ℕ) : Type 0 where
   pub outcome : Outcome
   pub carried_out : CarriedOut terms (calls_in terms.number ls) outcome
-  pub written : text ≡ whole_lines (cube_start (legs_of terms.legs)) ls (vec_items outcome.answers)
-      ++ end_lines (told_at_close (world_in terms) (session_end (world_in terms) (at_first terms) (calls_in terms.number ls)).room)
+  pub written : text ≡ whole_lines (cube_start (legs_of terms.legs)) ls (vec_items outcome.answers) ++ end_lines (told_at_end outcome)
 
 -- Where there is no room, the answers are those that are given at once.
 abbrev pub reply_line : ℕ → Said → List ℕ

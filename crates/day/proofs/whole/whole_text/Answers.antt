@@ -1,9 +1,8 @@
 -- The text is written of the answers that carrying out the calls came to, and of what is told when the room is closed.
-use Rattle.std.proofs.Common.{◌++◌, ◌∙◌, ap, subst, vec_items}
+use Rattle.std.proofs.Common.{◌++◌, ◌∙◌, ap, subst}
 use Rattle.market.specs.Cube.{CubePosition, cube_position, cube_start}
 use Rattle.market.specs.Legs.{legs_of}
-use Rattle.session.specs.Desks.{listed_told}
-use Rattle.day.specs.CarriedOut.{CarriedOut}
+use Rattle.day.specs.CarriedOut.{CarriedOut, told_at_end}
 use Rattle.day.specs.WholeText.{whole_lines, end_lines}
 use Rattle.day.proofs.whole.whole_text.Goals as goal
 
@@ -12,7 +11,7 @@ returns c =
     let lines = c.args.lines.now in
     let outcome = c.in_ok-answers.field-0 in
     let start = cube_start (legs_of c.args.terms.legs) in
-    let at_end = listed_told outcome.closed.first outcome.closed.second in
+    let at_end = told_at_end outcome in
     let carried = subst (λ calls. CarriedOut c.args.terms calls outcome) c.in_ok-calls.ensures c.in_ok-answers.ensures in
     let written =
     c.in_ok-write_lines.ensures
@@ -24,6 +23,5 @@ returns c =
       carried_out = carried;
       written =
           c.in_ok-write_end.ensures
-          ∙ ap (λ before. before ++ end_lines at_end) written
-          ∙ ap (λ told. whole_lines start lines (vec_items outcome.answers) ++ end_lines told) carried.at_end;
+          ∙ ap (λ before. before ++ end_lines at_end) written;
     }
