@@ -5,18 +5,17 @@ use borrow.Author.Differences.{ints}
 use lib.Signed.{lt_z}
 use Rattle.std.specs.Int.{int_min}
 use Rattle.std.specs.Option.{option_map}
+use Rattle.std.specs.Result.{result_err}
 use Rattle.market.specs.declared.quote.Quote.{Quote}
-use Rattle.market.specs.declared.refusal.RangeRefusal.{RangeRefusal}
-use Rattle.market.specs.declared.refusal.RangeRefusal.TheVariants.{PriceOutsideLimits, InitiatingBelowFloor}
 use Rattle.market.specs.declared.side.Side.{Side}
 use Rattle.market.specs.declared.side.Side.TheVariants.{Buy, Sell}
 use Rattle.market.specs.Prices.{in_limits}
 use Rattle.market.specs.Range.{RangePrices, turned_quote, range_from, range_faced, permitted}
-use Rattle.market.specs.RangeLaws.{refused_with, Gives, PlainPrices, mirrored, as_sell, RangeLaws}
+use Rattle.market.specs.RangeLaws.{Gives, PlainPrices, mirrored, as_sell, RangeLaws}
 use Rattle.market.specs.Turned.{turned}
 use Rattle.market.specs.LegsBounded.{turned_within}
 
-below : (side : Side) (limit floor contra : ℤ) → (limit <ℤ floor) ⊎ (contra <ℤ floor) → refused_with (range_from side limit floor contra) ≡ Some 15
+below : (side : Side) (limit floor contra : ℤ) → (limit <ℤ floor) ⊎ (contra <ℤ floor) → result_err (range_from side limit floor contra) ≡ Some 15
 below side limit floor contra h =
     let low : lt_z (int_min limit contra) floor ≡ true = grind (arith, ints) in
     rw low
@@ -40,10 +39,10 @@ above side limit floor contra h k =
 judged : (side : Side) (limit : ℤ) (q : Quote) → in_limits (Some limit) ≡ true → permitted side limit q ≡ range_faced side (turned side limit) (turned_quote side q).floor (turned_quote side q).contra
 judged side limit q h = rw h
 
-no_floor_is : (side : Side) (limit : ℤ) (floor contra : Option ℤ) → floor ≡ None → refused_with (range_faced side limit floor contra) ≡ Some 14
+no_floor_is : (side : Side) (limit : ℤ) (floor contra : Option ℤ) → floor ≡ None → result_err (range_faced side limit floor contra) ≡ Some 14
 no_floor_is side limit floor contra e = rw e
 
-no_contra_is : (side : Side) (limit : ℤ) (floor contra : Option ℤ) → contra ≡ None → refused_with (range_faced side limit floor contra) ≡ Some 14
+no_contra_is : (side : Side) (limit : ℤ) (floor contra : Option ℤ) → contra ≡ None → result_err (range_faced side limit floor contra) ≡ Some 14
 no_contra_is side limit None contra e = refl
 no_contra_is side limit (Some f) contra e = rw e
 
@@ -53,7 +52,7 @@ faced_is side limit f c floor contra e k = rw (e, k)
 -- a sell order's prices are those of the mirrored buy order
 sell_from : (limit floor contra : ℤ) → range_from Sell limit floor contra ≡ as_sell (range_from Buy limit floor contra)
 sell_from limit floor contra =
-    elim (lt_z (int_min limit contra) floor) as (λ b. cond b (Err InitiatingBelowFloor) (Ok (prices Sell)) ≡ as_sell (cond b (Err InitiatingBelowFloor) (Ok (prices Buy)))) [ true ↦ refl | false ↦ refl ]
+    elim (lt_z (int_min limit contra) floor) as (λ b. cond b (Err 15) (Ok (prices Sell)) ≡ as_sell (cond b (Err 15) (Ok (prices Buy)))) [ true ↦ refl | false ↦ refl ]
   where
     prices : Side → RangePrices
     prices side = record { side = side; floor = floor; contra = contra; initiating = int_min limit contra }
@@ -65,10 +64,10 @@ sell_faced limit (Some f) (Some c) = sell_from limit f c
 
 mirrors : (limit : ℤ) (q : Quote) → permitted Sell limit q ≡ as_sell (permitted Buy (neg_ℤ limit) (mirrored q))
 mirrors limit q =
-    let judge : Bool → Result RangePrices RangeRefusal = λ b. as_sell (cond b (range_faced Buy (neg_ℤ limit) (mirrored q).bid (mirrored q).offer) (Err PriceOutsideLimits)) in
+    let judge : Bool → Result RangePrices ℕ = λ b. as_sell (cond b (range_faced Buy (neg_ℤ limit) (mirrored q).bid (mirrored q).offer) (Err 2)) in
     by (in_limits (Some limit)) ∙ ap judge (sym (turned_within 40000000 Sell limit))
   where
-    by : (b : Bool) → cond b (range_faced Sell (neg_ℤ limit) (mirrored q).bid (mirrored q).offer) (Err PriceOutsideLimits) ≡ as_sell (cond b (range_faced Buy (neg_ℤ limit) (mirrored q).bid (mirrored q).offer) (Err PriceOutsideLimits))
+    by : (b : Bool) → cond b (range_faced Sell (neg_ℤ limit) (mirrored q).bid (mirrored q).offer) (Err 2) ≡ as_sell (cond b (range_faced Buy (neg_ℤ limit) (mirrored q).bid (mirrored q).offer) (Err 2))
     by true = sell_faced (neg_ℤ limit) (mirrored q).bid (mirrored q).offer
     by false = refl
 
@@ -81,7 +80,7 @@ given_from side limit floor contra r e = go (lt_z (int_min limit contra) floor) 
 
     go : (b : Bool) → lt_z (int_min limit contra) floor ≡ b → (prices ≡ r) × (lt_z (int_min limit contra) floor ≡ false)
     go true k =
-        let low : range_from side limit floor contra ≡ Err InitiatingBelowFloor = rw k in
+        let low : range_from side limit floor contra ≡ Err 15 = rw k in
         let z : ◌≡◌ {A = ℕ} 0 1 = cc in
         absurd (omega arith)
     go false k =
@@ -95,7 +94,7 @@ given_faced side limit q r e = go (in_limits (Some limit)) refl
     go : (b : Bool) → in_limits (Some limit) ≡ b → range_faced side (turned side limit) (turned_quote side q).floor (turned_quote side q).contra ≡ Ok r
     go true k = let same = judged side limit q k in cc
     go false k =
-        let out : permitted side limit q ≡ Err PriceOutsideLimits = rw k in
+        let out : permitted side limit q ≡ Err 2 = rw k in
         let z : ◌≡◌ {A = ℕ} 0 1 = cc in
         absurd (omega arith)
 
@@ -118,9 +117,9 @@ plain Sell limit q bid offer b o r e =
 pub range_laws : (side : Side) (limit : ℤ) (q : Quote) → RangeLaws side limit q (permitted side limit q)
 range_laws side limit q = record {
   outside_limits = λ h. rw h;
-  no_floor = λ h e. ap refused_with (judged side limit q h) ∙ no_floor_is side (turned side limit) (turned_quote side q).floor (turned_quote side q).contra e;
-  no_contra = λ h e. ap refused_with (judged side limit q h) ∙ no_contra_is side (turned side limit) (turned_quote side q).floor (turned_quote side q).contra e;
-  below_floor = λ h f c e k low. ap refused_with (judged side limit q h ∙ faced_is side (turned side limit) f c (turned_quote side q).floor (turned_quote side q).contra e k) ∙ below side (turned side limit) f c low;
+  no_floor = λ h e. ap result_err (judged side limit q h) ∙ no_floor_is side (turned side limit) (turned_quote side q).floor (turned_quote side q).contra e;
+  no_contra = λ h e. ap result_err (judged side limit q h) ∙ no_contra_is side (turned side limit) (turned_quote side q).floor (turned_quote side q).contra e;
+  below_floor = λ h f c e k low. ap result_err (judged side limit q h ∙ faced_is side (turned side limit) f c (turned_quote side q).floor (turned_quote side q).contra e k) ∙ below side (turned side limit) f c low;
   in_range = λ h f c e k l m. subst (λ r. Gives r side f c (turned side limit)) (sym (judged side limit q h ∙ faced_is side (turned side limit) f c (turned_quote side q).floor (turned_quote side q).contra e k)) (above side (turned side limit) f c l m);
   plain_prices = plain side limit q;
   sell_mirrors_buy = λ e. ap (λ s. permitted s limit q) e ∙ mirrors limit q;

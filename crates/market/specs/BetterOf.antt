@@ -1,11 +1,11 @@
 -- Better-of, over any two markets: the bid is the higher shown, the offer the lower shown, and a half with no price
 -- does not count. A tick is for one half; a fault says which half refused, and holds that half's fault whole.
-use Rattle.std.specs.Prelude.{ℤ, Some, None, Ok, Err, Option, Result}
+use Rattle.std.specs.Prelude.{ℤ, Some, None, Option, Result}
 use Rattle.std.specs.Int.{int_max, int_min}
 use Rattle.market.specs.declared.better_of.Half.{Half}
 use Rattle.market.specs.declared.better_of.Half.TheVariants.{Left, Right}
 use Rattle.market.specs.declared.quote.Quote.{Quote}
-use Rattle.market.specs.Meaning.{Meaning}
+use Rattle.market.specs.Meaning.{Meaning, told_by}
 
 -- The higher of two bids; no price does not count.
 abbrev pub higher : Option ℤ → Option ℤ → Option ℤ
@@ -23,16 +23,16 @@ lower (Some x) (Some y) = Some (int_min x y)
 abbrev pub better_quote : Quote → Quote → Quote
 better_quote p q = record { bid = higher p.bid q.bid; offer = lower p.offer q.offer }
 
--- The same answer with its fault, if it is one, made into another.
-abbrev pub fault_by : {E F : Type 0} → (E → F) → Result (Unit {0}) E → Result (Unit {0}) F
-fault_by f (Ok u) = Ok u
-fault_by f (Err e) = Err (f e)
+-- What is told of a fault of a half: which half, and what is told of that half's fault.
+abbrev pub half_told : {D E F G : Type 0} → (D → F) → (E → G) → Half D E → Half F G
+half_told f g (Left d) = Left (f d)
+half_told f g (Right e) = Right (g e)
 
 module _ {P Q S T E F : Type 0} where
   -- The half that a tick is for answers it,
   abbrev pub half_answer : Meaning P S E → Meaning Q T F → P → Q → Half S T → Result (Unit {0}) (Half E F)
-  half_answer m n p q (Left s) = fault_by Left (m.answer p s)
-  half_answer m n p q (Right t) = fault_by Right (n.answer q t)
+  half_answer m n p q (Left s) = told_by Left (m.answer p s)
+  half_answer m n p q (Right t) = told_by Right (n.answer q t)
 
   -- and takes it; the other half stays.
   abbrev pub half_next : Meaning P S E → Meaning Q T F → P → Q → Half S T → P × Q

@@ -3,7 +3,6 @@
 use Rattle.std.specs.Prelude.{ℕ, List}
 use Rattle.market.specs.declared.better_of.BetterOf.{BetterOf}
 use Rattle.market.specs.declared.better_of.Half.{Half}
-use Rattle.market.specs.declared.fault.Fault.{Fault}
 use Rattle.market.specs.declared.improve.Improve.{Improve}
 use Rattle.market.specs.declared.legs.Legs.{Legs}
 use Rattle.market.specs.declared.legs.leg.Leg.{Leg}
@@ -11,6 +10,7 @@ use Rattle.market.specs.declared.legs.leg.LegTick.{LegTick}
 use Rattle.market.specs.declared.quote.Quote.{Quote}
 use Rattle.market.specs.declared.touch.Touch.{Touch}
 use Rattle.market.specs.BetterOf.{better_quote, better_of_meaning}
+use Rattle.market.specs.Faults.{FaultTold}
 use Rattle.market.specs.Improve.{improved_quote, improve_meaning}
 use Rattle.market.specs.Legs.{legs_of, legs_quote, legs_meaning, smallest_ratio}
 use Rattle.market.specs.Meaning.{Meaning, nothing_shown}
@@ -33,7 +33,7 @@ abbrev pub cube_start : List Leg → CubePosition
 cube_start ls = ((nothing_shown, 1), (ls, smallest_ratio ls))
 
 -- The pile as a market.
-abbrev pub cube_meaning : Meaning CubePosition (Half Quote LegTick) (Half Fault Fault)
+abbrev pub cube_meaning : Meaning CubePosition (Half Quote LegTick) (Half FaultTold FaultTold)
 cube_meaning = better_of_meaning (improve_meaning touch_meaning) (improve_meaning legs_meaning)
 
 -- What the CUBE market shows of a book's quote and of legs with theirs.

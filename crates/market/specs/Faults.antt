@@ -1,8 +1,13 @@
--- Market faults: a cause, known by its number, and a place.
-use Rattle.std.specs.Prelude.{ℕ, cond, Err, Result, ◌==◌}
+-- Market faults: a cause, told by its number, and a place.
+use Rattle.std.specs.Prelude.{ℕ, Err, Result}
 use Rattle.market.specs.declared.fault.Cause.{Cause}
 use Rattle.market.specs.declared.fault.Cause.TheVariants.{NoSuchLeg, BeyondLimit, BidNotBelowOffer}
 use Rattle.market.specs.declared.fault.Fault.{Fault}
+
+-- A fault as it is told: the number of its cause, and its place.
+pub record FaultTold : Type 0 where
+  pub cause : ℕ
+  pub place : ℕ
 
 -- 1 no such leg, 2 price beyond the limit, 3 bid not below offer.
 abbrev pub cause_number : Cause → ℕ
@@ -10,10 +15,10 @@ cause_number NoSuchLeg = 1
 cause_number BeyondLimit = 2
 cause_number BidNotBelowOffer = 3
 
--- The cause of a number, 1 to 3.
-abbrev pub cause_numbered : ℕ → Cause
-cause_numbered n = cond (n == 1) NoSuchLeg (cond (n == 2) BeyondLimit BidNotBelowOffer)
+-- What is told of a fault.
+abbrev pub fault_told : Fault → FaultTold
+fault_told f = record { cause = cause_number f.cause; place = f.place }
 
 -- A tick refused for the cause of this number at this place.
-abbrev pub fault : ℕ → ℕ → Result (Unit {0}) Fault
-fault n place = Err (record { cause = cause_numbered n; place = place })
+abbrev pub fault : ℕ → ℕ → Result (Unit {0}) FaultTold
+fault cause place = Err (record { cause = cause; place = place })

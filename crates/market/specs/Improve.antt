@@ -3,12 +3,13 @@
 use Rattle.std.specs.Prelude.{ℕ, cond, ℤ, pos, ◌+ℤ◌, ◌-ℤ◌, neg_ℤ, Ok, Err, Option, Result}
 use Rattle.std.specs.Int.{int_max, int_min}
 use Rattle.std.specs.Option.{option_map}
+use Rattle.std.specs.Result.{result_map_both}
 use Rattle.market.specs.declared.improve.Improve.{Improve}
 use Rattle.market.specs.declared.quote.Quote.{Quote}
 use Rattle.market.specs.declared.refusal.SetupRefusal.{SetupRefusal}
 use Rattle.market.specs.Meaning.{Meaning}
 use Rattle.market.specs.OneToNine.{one_to_nine}
-use Rattle.market.specs.Refusals.{setup_refusal}
+use Rattle.market.specs.Refusals.{setup_number}
 
 -- Held at 50,000,000 cents either way.
 abbrev pub held : ℤ → ℤ
@@ -36,10 +37,9 @@ improve_meaning m = record {
 
 module _ {M : Type 0} where
   -- What is made of a market and a step: both, as given, or refusal 9 and the market back.
-  abbrev pub improve_made : M → ℕ → Result (M × ℕ) (SetupRefusal × M)
-  improve_made market step = cond (one_to_nine step) (Ok (market, step)) (Err (setup_refusal 9, market))
+  abbrev pub improve_made : M → ℕ → Result (M × ℕ) (ℕ × M)
+  improve_made market step = cond (one_to_nine step) (Ok (market, step)) (Err (9, market))
 
-  -- The market and the step that were taken, or the refusal with the market.
-  abbrev pub improve_parts : Result (Improve M) (SetupRefusal × M) → Result (M × ℕ) (SetupRefusal × M)
-  improve_parts (Ok i) = Ok (i.inner, i.step)
-  improve_parts (Err e) = Err e
+  -- The market and the step that were taken, or the refusal's number with the market.
+  abbrev pub improve_parts : Result (Improve M) (SetupRefusal × M) → Result (M × ℕ) (ℕ × M)
+  improve_parts = result_map_both (λ i. (i.inner, i.step)) (λ e. (setup_number e.0, e.1))

@@ -1,7 +1,7 @@
 -- Legs: two to four, each bought or sold, made of two, the others added singly. Prices show once every leg is quoted.
 use Rattle.std.specs.Prelude.{ℕ, ◌-◌, min, cond, ◌&&◌, List, [], ◌∷◌, ◌++◌, length, ℤ, pos, ◌+ℤ◌, ◌*ℤ◌, is_ok, Some, None, Ok, Err, Option, Result, ◌==◌, int_lt, nat_le}
 use Rattle.std.specs.Option.{option_map}
-use Rattle.market.specs.declared.fault.Fault.{Fault}
+use Rattle.std.specs.Result.{result_map_both}
 use Rattle.market.specs.declared.legs.Legs.{Legs}
 use Rattle.market.specs.declared.legs.leg.Leg.{Leg}
 use Rattle.market.specs.declared.legs.leg.LegQuote.{LegQuote}
@@ -13,11 +13,11 @@ use Rattle.market.specs.declared.quote.Quote.{Quote}
 use Rattle.market.specs.declared.refusal.SetupRefusal.{SetupRefusal}
 use Rattle.market.specs.declared.side.Side.{Side}
 use Rattle.market.specs.declared.side.Side.TheVariants.{Buy, Sell}
-use Rattle.market.specs.Faults.{fault}
+use Rattle.market.specs.Faults.{FaultTold, fault}
 use Rattle.market.specs.LegInvariant.{leg_price_ok}
 use Rattle.market.specs.Meaning.{Meaning}
 use Rattle.market.specs.OneToNine.{one_to_nine}
-use Rattle.market.specs.Refusals.{setup_refusal}
+use Rattle.market.specs.Refusals.{setup_number}
 use Rattle.market.specs.Turned.{turned}
 
 -- A leg in front of others, if there is one.
@@ -34,17 +34,16 @@ abbrev pub unquoted : LegTerms → Leg
 unquoted t = record { side = t.side; ratio = t.ratio; quote = None }
 
 -- Made of two legs: refusal 9 for a ratio outside 1 to 9.
-abbrev pub legs_made : LegTerms → LegTerms → Result (List Leg) SetupRefusal
-legs_made x y = cond (one_to_nine x.ratio && one_to_nine y.ratio) (Ok (unquoted x ∷ (unquoted y ∷ []))) (Err (setup_refusal 9))
+abbrev pub legs_made : LegTerms → LegTerms → Result (List Leg) ℕ
+legs_made x y = cond (one_to_nine x.ratio && one_to_nine y.ratio) (Ok (unquoted x ∷ (unquoted y ∷ []))) (Err 9)
 
--- The legs that were made, or the refusal.
-abbrev pub made_legs : Result Legs SetupRefusal → Result (List Leg) SetupRefusal
-made_legs (Ok s) = Ok (legs_of s)
-made_legs (Err e) = Err e
+-- The legs that were made, or the refusal's number.
+abbrev pub made_legs : Result Legs SetupRefusal → Result (List Leg) ℕ
+made_legs = result_map_both legs_of setup_number
 
 -- One leg more: refusal 9 for its ratio, then 10 for a fifth leg.
-abbrev pub legs_add : List Leg → LegTerms → Result (Unit {0}) SetupRefusal
-legs_add ls x = cond (one_to_nine x.ratio) (cond (nat_le 4 (length ls)) (Err (setup_refusal 10)) (Ok tt)) (Err (setup_refusal 9))
+abbrev pub legs_add : List Leg → LegTerms → Result (Unit {0}) ℕ
+legs_add ls x = cond (one_to_nine x.ratio) (cond (nat_le 4 (length ls)) (Err 10) (Ok tt)) (Err 9)
 
 -- An accepted leg stands behind those that are there; a refused one is not there.
 abbrev pub legs_added : List Leg → LegTerms → List Leg
@@ -83,7 +82,7 @@ legs_quote ls = record { bid = legs_sum Bid ls; offer = legs_sum Offer ls }
 
 -- A tick is for a leg that there is, its prices are 0 to 1,000,000, the bid looked at first, and the bid is below the
 -- offer. The fault's place is the leg number.
-abbrev pub tick_answer : ℕ → LegTick → Result (Unit {0}) Fault
+abbrev pub tick_answer : ℕ → LegTick → Result (Unit {0}) FaultTold
 tick_answer count t =
     cond (nat_le 1 t.leg && nat_le t.leg count)
     (cond (leg_price_ok t.quote.bid)
@@ -94,7 +93,7 @@ tick_answer count t =
     (fault 1 t.leg)
 
 -- The answer of these legs to a tick.
-abbrev pub legs_answer : List Leg → LegTick → Result (Unit {0}) Fault
+abbrev pub legs_answer : List Leg → LegTick → Result (Unit {0}) FaultTold
 legs_answer ls t = tick_answer (length ls) t
 
 -- A leg with a new quote.
@@ -111,5 +110,5 @@ abbrev pub legs_next : List Leg → LegTick → List Leg
 legs_next ls t = cond (is_ok (legs_answer ls t)) (quote_leg t.leg t.quote ls) ls
 
 -- Legs as a market: the position is the legs with their quotes.
-abbrev pub legs_meaning : Meaning (List Leg) LegTick Fault
+abbrev pub legs_meaning : Meaning (List Leg) LegTick FaultTold
 legs_meaning = record { shows = legs_quote; answer = legs_answer; next = legs_next }

@@ -1,14 +1,19 @@
 -- What a market means, and the terms that every market keeps.
 use Rattle.std.specs.Prelude.{◌≡◌, true, false, is_ok, None, Result}
+use Rattle.std.specs.Result.{result_map_both}
 use Rattle.market.specs.declared.quote.Quote.{Quote}
 use Rattle.market.specs.Prices.{showable}
 
--- A market of positions P, ticks T and faults F: what a position shows, how it answers a tick, and which position
--- follows. All three follow from the position, and the last two from the tick as well, and from nothing else.
+-- A market of positions P, ticks T and faults that are told as F: what a position shows, how it answers a tick, and which
+-- position follows. All three follow from the position, and the last two from the tick as well, and from nothing else.
 pub record Meaning (P T F : Type 0) : Type 0 where
   pub shows : P → Quote
   pub answer : P → T → Result (Unit {0}) F
   pub next : P → T → P
+
+-- An answer as it is told: what `f` tells of its fault or refusal stands in its place.
+abbrev pub told_by : {X E F : Type 0} → (E → F) → Result X E → Result X F
+told_by f = result_map_both (λ x. x) f
 
 -- No price on either side.
 abbrev pub nothing_shown : Quote

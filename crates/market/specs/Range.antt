@@ -1,7 +1,8 @@
 -- The permitted range of an order, on turned prices: from the floor to the initiating price.
-use Rattle.std.specs.Prelude.{cond, ℤ, neg_ℤ, Some, None, Ok, Err, Option, Result, int_lt}
+use Rattle.std.specs.Prelude.{ℕ, cond, ℤ, neg_ℤ, Some, None, Ok, Err, Option, Result, int_lt}
 use Rattle.std.specs.Int.{int_max, int_min}
 use Rattle.std.specs.Option.{option_map}
+use Rattle.std.specs.Result.{result_map_both}
 use Rattle.market.specs.declared.quote.Quote.{Quote}
 use Rattle.market.specs.declared.range.PermittedRange.{PermittedRange}
 use Rattle.market.specs.declared.range.TurnedQuote.{TurnedQuote}
@@ -9,7 +10,7 @@ use Rattle.market.specs.declared.refusal.RangeRefusal.{RangeRefusal}
 use Rattle.market.specs.declared.side.Side.{Side}
 use Rattle.market.specs.declared.side.Side.TheVariants.{Buy, Sell}
 use Rattle.market.specs.Prices.{in_limits}
-use Rattle.market.specs.Refusals.{range_refusal}
+use Rattle.market.specs.Refusals.{range_number}
 use Rattle.market.specs.Turned.{turned}
 
 -- The floor is the shown bid and the contra price the shown offer; for a sell order, the turned offer and the turned
@@ -26,34 +27,33 @@ pub record RangePrices : Type 0 where
   pub initiating : ℤ
 
 -- The initiating price is the lower of limit and contra price; below the floor, it is refusal 15.
-abbrev pub range_from : Side → ℤ → ℤ → ℤ → Result RangePrices RangeRefusal
+abbrev pub range_from : Side → ℤ → ℤ → ℤ → Result RangePrices ℕ
 range_from side limit floor contra =
     cond (int_lt (int_min limit contra) floor)
-    (Err (range_refusal 15))
+    (Err 15)
     (Ok (record { side = side; floor = floor; contra = contra; initiating = int_min limit contra }))
 
 -- A side that shows no price is refusal 14.
-abbrev pub range_faced : Side → ℤ → Option ℤ → Option ℤ → Result RangePrices RangeRefusal
-range_faced side limit None contra = Err (range_refusal 14)
-range_faced side limit (Some floor) None = Err (range_refusal 14)
+abbrev pub range_faced : Side → ℤ → Option ℤ → Option ℤ → Result RangePrices ℕ
+range_faced side limit None contra = Err 14
+range_faced side limit (Some floor) None = Err 14
 range_faced side limit (Some floor) (Some contra) = range_from side limit floor contra
 
 -- What a market that shows `q` permits an order of a side and a limit price; a limit price outside −40,000,000 to
 -- 40,000,000 is refusal 2.
-abbrev pub permitted : Side → ℤ → Quote → Result RangePrices RangeRefusal
+abbrev pub permitted : Side → ℤ → Quote → Result RangePrices ℕ
 permitted side limit q =
     cond (in_limits (Some limit))
     (range_faced side (turned side limit) (turned_quote side q).floor (turned_quote side q).contra)
-    (Err (range_refusal 2))
+    (Err 2)
 
 -- The prices of a range that was given.
 abbrev pub range_prices : PermittedRange → RangePrices
 range_prices r = record { side = r.side; floor = r.floor; contra = r.contra; initiating = r.initiating }
 
--- The prices, or the refusal.
-abbrev pub range_answer : Result PermittedRange RangeRefusal → Result RangePrices RangeRefusal
-range_answer (Ok r) = Ok (range_prices r)
-range_answer (Err e) = Err e
+-- The prices, or the refusal's number.
+abbrev pub range_answer : Result PermittedRange RangeRefusal → Result RangePrices ℕ
+range_answer = result_map_both range_prices range_number
 
 -- The lowest permitted price as the strategy is priced: floor or initiating price, turned back.
 abbrev pub lowest_price : RangePrices → ℤ

@@ -1,20 +1,14 @@
 -- What an order can rely on, whatever the market: which refusal it earns, and what holds of a range that it is given.
-use Rattle.std.specs.Prelude.{◌≡◌, ℕ, true, false, ◌⊎◌, ℤ, neg_ℤ, ◌≤ℤ◌, ◌<ℤ◌, Some, None, Ok, Err, Option, Result}
+use Rattle.std.specs.Prelude.{◌≡◌, ℕ, true, false, ◌⊎◌, ℤ, neg_ℤ, ◌≤ℤ◌, ◌<ℤ◌, Some, None, Ok, Err, Result}
 use Rattle.std.specs.Int.{int_max, int_min}
 use Rattle.std.specs.Option.{option_map}
+use Rattle.std.specs.Result.{result_err}
 use Rattle.market.specs.declared.quote.Quote.{Quote}
-use Rattle.market.specs.declared.refusal.RangeRefusal.{RangeRefusal}
 use Rattle.market.specs.declared.side.Side.{Side}
 use Rattle.market.specs.declared.side.Side.TheVariants.{Buy, Sell}
 use Rattle.market.specs.Prices.{in_limits}
 use Rattle.market.specs.Range.{RangePrices, turned_quote, permitted, lowest_price, highest_price}
-use Rattle.market.specs.Refusals.{range_number}
 use Rattle.market.specs.Turned.{turned}
-
--- The number of a refusal, if the answer is one.
-abbrev pub refused_with : Result RangePrices RangeRefusal → Option ℕ
-refused_with (Ok r) = None
-refused_with (Err e) = Some (range_number e)
 
 -- The initiating price is the limit or the contra price, and above neither; the floor is not above it.
 pub record InRange (limit : ℤ) (r : RangePrices) : Type 0 where
@@ -24,7 +18,7 @@ pub record InRange (limit : ℤ) (r : RangePrices) : Type 0 where
   pub one_of_both : (r.initiating ≡ limit) ⊎ (r.initiating ≡ r.contra)
 
 -- A range with these prices for this side, if the answer is one.
-abbrev pub Gives : Result RangePrices RangeRefusal → Side → ℤ → ℤ → ℤ → Type 0
+abbrev pub Gives : Result RangePrices ℕ → Side → ℤ → ℤ → ℤ → Type 0
 Gives (Ok r) side floor contra limit = (r.side ≡ side) × (r.floor ≡ floor) × (r.contra ≡ contra) × InRange limit r
 Gives (Err e) side floor contra limit = ⊥
 
@@ -39,18 +33,18 @@ abbrev pub mirrored : Quote → Quote
 mirrored q = record { bid = option_map neg_ℤ q.offer; offer = option_map neg_ℤ q.bid }
 
 -- The same range, of a sell order.
-abbrev pub as_sell : Result RangePrices RangeRefusal → Result RangePrices RangeRefusal
+abbrev pub as_sell : Result RangePrices ℕ → Result RangePrices ℕ
 as_sell (Ok r) = Ok (record { side = Sell; floor = r.floor; contra = r.contra; initiating = r.initiating })
 as_sell (Err e) = Err e
 
-pub record RangeLaws (side : Side) (limit : ℤ) (q : Quote) (answer : Result RangePrices RangeRefusal) : Type 0 where
+pub record RangeLaws (side : Side) (limit : ℤ) (q : Quote) (answer : Result RangePrices ℕ) : Type 0 where
   -- 2: the limit price is more than 40,000,000 either way.
-  pub outside_limits : in_limits (Some limit) ≡ false → refused_with answer ≡ Some 2
+  pub outside_limits : in_limits (Some limit) ≡ false → result_err answer ≡ Some 2
   -- 14: a side shows no price.
-  pub no_floor : in_limits (Some limit) ≡ true → (turned_quote side q).floor ≡ None → refused_with answer ≡ Some 14
-  pub no_contra : in_limits (Some limit) ≡ true → (turned_quote side q).contra ≡ None → refused_with answer ≡ Some 14
+  pub no_floor : in_limits (Some limit) ≡ true → (turned_quote side q).floor ≡ None → result_err answer ≡ Some 14
+  pub no_contra : in_limits (Some limit) ≡ true → (turned_quote side q).contra ≡ None → result_err answer ≡ Some 14
   -- 15: the limit or the contra price is below the floor.
-  pub below_floor : in_limits (Some limit) ≡ true → (floor contra : ℤ) → (turned_quote side q).floor ≡ Some floor → (turned_quote side q).contra ≡ Some contra → (turned side limit <ℤ floor) ⊎ (contra <ℤ floor) → refused_with answer ≡ Some 15
+  pub below_floor : in_limits (Some limit) ≡ true → (floor contra : ℤ) → (turned_quote side q).floor ≡ Some floor → (turned_quote side q).contra ≡ Some contra → (turned side limit <ℤ floor) ⊎ (contra <ℤ floor) → result_err answer ≡ Some 15
   -- Otherwise there is a range, of the shown floor and contra price.
   pub in_range : in_limits (Some limit) ≡ true → (floor contra : ℤ) → (turned_quote side q).floor ≡ Some floor → (turned_quote side q).contra ≡ Some contra → floor ≤ℤ turned side limit → floor ≤ℤ contra → Gives answer side floor contra (turned side limit)
   -- A range, as the strategy is priced.

@@ -1,5 +1,5 @@
--- The refusals of this layer, known by their numbers.
-use Rattle.std.specs.Prelude.{ℕ, cond, ◌==◌}
+-- The refusals of this layer, told by their numbers.
+use Rattle.std.specs.Prelude.{ℕ}
 use Rattle.market.specs.declared.refusal.SetupRefusal.{SetupRefusal}
 use Rattle.market.specs.declared.refusal.SetupRefusal.TheVariants.{RatioOrStep, FifthLeg}
 use Rattle.market.specs.declared.refusal.RangeRefusal.{RangeRefusal}
@@ -10,16 +10,8 @@ abbrev pub setup_number : SetupRefusal → ℕ
 setup_number RatioOrStep = 9
 setup_number FifthLeg = 10
 
--- The refusal of a number, 9 or 10.
-abbrev pub setup_refusal : ℕ → SetupRefusal
-setup_refusal n = cond (n == 9) RatioOrStep FifthLeg
-
 -- Asking for a range: 2 a price outside the limits, 14 a side that shows no price, 15 an initiating price below the floor.
 abbrev pub range_number : RangeRefusal → ℕ
 range_number PriceOutsideLimits = 2
 range_number SideShowsNoPrice = 14
 range_number InitiatingBelowFloor = 15
-
--- The refusal of a number, 2, 14 or 15.
-abbrev pub range_refusal : ℕ → RangeRefusal
-range_refusal n = cond (n == 2) PriceOutsideLimits (cond (n == 14) SideShowsNoPrice InitiatingBelowFloor)

@@ -1,9 +1,8 @@
 -- Touch: a tick gives a bid and an offer, each a price or none; before the first there is none.
 use Rattle.std.specs.Prelude.{cond, is_ok, Ok, Result}
-use Rattle.market.specs.declared.fault.Fault.{Fault}
 use Rattle.market.specs.declared.quote.Quote.{Quote}
 use Rattle.market.specs.declared.touch.Touch.{Touch}
-use Rattle.market.specs.Faults.{fault}
+use Rattle.market.specs.Faults.{FaultTold, fault}
 use Rattle.market.specs.Meaning.{Meaning}
 use Rattle.market.specs.Prices.{in_limits, uncrossed}
 
@@ -13,7 +12,7 @@ touch_quote t = t.quote
 
 -- Prices are −40,000,000 to 40,000,000, the bid is looked at first (place 0), then the offer (place 1); then, where
 -- both are given, the bid is below the offer (place 0).
-abbrev pub touch_answer : Quote → Result (Unit {0}) Fault
+abbrev pub touch_answer : Quote → Result (Unit {0}) FaultTold
 touch_answer q =
     cond (in_limits q.bid)
     (cond (in_limits q.offer)
@@ -26,5 +25,5 @@ abbrev pub touch_next : Quote → Quote → Quote
 touch_next p q = cond (is_ok (touch_answer q)) q p
 
 -- A touch as a market: it shows the quote that it is at.
-abbrev pub touch_meaning : Meaning Quote Quote Fault
+abbrev pub touch_meaning : Meaning Quote Quote FaultTold
 touch_meaning = record { shows = λ p. p; answer = λ _ q. touch_answer q; next = touch_next }

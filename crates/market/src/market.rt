@@ -1,6 +1,6 @@
 // A market: what it shows when asked, and how it takes a tick, its own kind of message.
 ghost use Rattle.std.specs.Prelude.{◌≡◌};
-ghost use Rattle.market.specs.Meaning.{Meaning, Bounded, RefusedLeaves};
+ghost use Rattle.market.specs.Meaning.{Meaning, Bounded, RefusedLeaves, told_by};
 
 use crate::quote::Quote;
 
@@ -14,15 +14,20 @@ pub trait Market {
 
     ghost position: { Self → Position };
 
+    // What is told of a fault.
+    ghost Told: { Type 0 };
+
+    ghost told: { Self.Fault → Told };
+
     // What a position shows, how it answers a tick, and which position follows.
-    ghost meaning: { Meaning Position Self.Tick Self.Fault };
+    ghost meaning: { Meaning Position Self.Tick Told };
 
     fn shown(&self) -> Quote
         ensures answer { result ≡ meaning.shows (position self.now) }
         ensures leaves { position self.exit.now ≡ position self.entry.now };
 
     fn tick(&mut self, tick: Self::Tick) -> Result<(), Self::Fault>
-        ensures answer { result ≡ meaning.answer (position self.old) tick }
+        ensures answer { told_by told result ≡ meaning.answer (position self.old) tick }
         ensures next { position self.new ≡ meaning.next (position self.old) tick };
 
     // A shown price is at most 50,000,000 cents either way.

@@ -1,7 +1,9 @@
 // The better of two markets as a market: a tick is for one half.
 ghost use Rattle.std.specs.Prelude.{◌≡◌};
 ghost use Rattle.std.proofs.Common.{sym, ap, ◌∙◌, rules};
-ghost use Rattle.market.specs.BetterOf.{higher, lower, better_quote, fault_by, half_answer, half_next, better_of_meaning};
+ghost use Rattle.market.specs.BetterOf.{higher, lower, better_quote, half_told, half_answer, half_next, better_of_meaning};
+ghost use Rattle.market.specs.Meaning.{told_by};
+ghost use Rattle.market.specs.declared.better_of.Half.{Half};
 ghost use Rattle.market.specs.declared.better_of.Half.TheVariants.{Left, Right};
 ghost use Rattle.market.specs.BetterOfMarketLemmas.{same_ok};
 
@@ -52,6 +54,10 @@ impl<X: Market, Y: Market> Market for BetterOf<X, Y> {
 
     ghost position = { λ s. (X.Market.position s.left, Y.Market.position s.right) };
 
+    ghost Told = { Half X.Market.Told Y.Market.Told };
+
+    ghost told = { half_told X.Market.told Y.Market.told };
+
     ghost meaning = { better_of_meaning X.Market.meaning Y.Market.meaning };
 
     ghost bounded = { Prim.search rules };
@@ -76,7 +82,7 @@ impl<X: Market, Y: Market> Market for BetterOf<X, Y> {
     }
 
     fn tick(&mut self, tick: Half<X::Tick, Y::Tick>) -> Result<(), Half<X::Fault, Y::Fault>>
-        ensures answer { result ≡ half_answer X.Market.meaning Y.Market.meaning (X.Market.position self.old.left) (Y.Market.position self.old.right) tick }
+        ensures answer { told_by (half_told X.Market.told Y.Market.told) result ≡ half_answer X.Market.meaning Y.Market.meaning (X.Market.position self.old.left) (Y.Market.position self.old.right) tick }
         ensures next { (X.Market.position self.new.left, Y.Market.position self.new.right) ≡ half_next X.Market.meaning Y.Market.meaning (X.Market.position self.old.left) (Y.Market.position self.old.right) tick }
     {
         match tick {

@@ -2,7 +2,7 @@
 ghost use Rattle.std.specs.Prelude.{◌≡◌, ℕ, ◌≤◌, true, ◌+ℤ◌, unsigned_abs};
 ghost use Rattle.std.specs.Option.{option_map};
 ghost use Rattle.market.specs.Improve.{improve_made, improve_parts, held, improved_quote, improve_meaning};
-ghost use Rattle.market.specs.Meaning.{Bounded};
+ghost use Rattle.market.specs.Meaning.{Bounded, told_by};
 ghost use Rattle.market.specs.Prices.{showable};
 ghost use Rattle.std.proofs.Common.{rules, arith};
 
@@ -46,6 +46,10 @@ impl<M: Market> Market for Improve<M> {
 
     ghost position = { λ s. (M.Market.position s.inner, s.step) };
 
+    ghost Told = { M.Market.Told };
+
+    ghost told = { M.Market.told };
+
     ghost meaning = { improve_meaning M.Market.meaning };
 
     ghost bounded = { Prim.search rules };
@@ -65,7 +69,7 @@ impl<M: Market> Market for Improve<M> {
     }
 
     fn tick(&mut self, tick: M::Tick) -> Result<(), M::Fault>
-        ensures answer { result ≡ M.Market.meaning.answer (M.Market.position self.old.inner) tick }
+        ensures answer { told_by M.Market.told result ≡ M.Market.meaning.answer (M.Market.position self.old.inner) tick }
         ensures next { M.Market.position self.new.inner ≡ M.Market.meaning.next (M.Market.position self.old.inner) tick }
         ensures step { self.new.step ≡ self.old.step }
     {

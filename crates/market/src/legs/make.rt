@@ -2,6 +2,8 @@
 ghost use Rattle.std.specs.Prelude.{◌≡◌, ◌≤◌};
 ghost use Rattle.market.specs.LegSteps.{smallest_with};
 ghost use Rattle.market.specs.Legs.{legs_of, made_legs, legs_made, legs_add, legs_added, smallest_ratio};
+ghost use Rattle.market.specs.Meaning.{told_by};
+ghost use Rattle.market.specs.Refusals.{setup_number};
 
 use super::Legs;
 use super::leg::{Leg, LegTerms};
@@ -32,7 +34,7 @@ impl Legs {
 
     // One leg more, not yet quoted, up to four.
     pub fn add(&mut self, leg: LegTerms) -> Result<(), SetupRefusal>
-        ensures answer { result ≡ legs_add (legs_of self.old) leg }
+        ensures answer { told_by setup_number result ≡ legs_add (legs_of self.old) leg }
         ensures after { legs_of self.new ≡ legs_added (legs_of self.old) leg }
     {
         if !one_to_nine(leg.ratio) {

@@ -1,8 +1,10 @@
 // Legs as a market.
 ghost use Rattle.std.specs.Prelude.{◌≡◌, ◌≤◌, true, List, length};
 ghost use Rattle.std.specs.Option.{option_map};
+ghost use Rattle.market.specs.Faults.{FaultTold, fault_told};
 ghost use Rattle.market.specs.LegInvariant.{leg_ok, optional_leg_ok, leg_price_ok, leg_quote_ok};
 ghost use Rattle.market.specs.Legs.{legs_of, legs_quote, legs_answer, legs_next, legs_meaning, quoted, quote_leg, tick_answer, legs_sum};
+ghost use Rattle.market.specs.Meaning.{told_by};
 ghost use Rattle.market.specs.declared.legs.leg.Leg.{Leg};
 ghost use Rattle.std.proofs.Common.{arith, rules};
 ghost use Rattle.market.specs.declared.legs.leg.QuoteSide.TheVariants.{Bid, Offer};
@@ -24,7 +26,7 @@ fn in_limits(price: i64) -> bool
 
 // The first fault of a tick for one of so many legs, if it has one.
 fn fault_of(count: u32, tick: LegTick) -> Result<(), Fault>
-    ensures { result ≡ tick_answer count tick }
+    ensures { told_by fault_told result ≡ tick_answer count tick }
 {
     let place = tick.leg;
     if !(1..=count).contains(&place) {
@@ -92,6 +94,10 @@ impl Market for Legs {
 
     ghost position = { legs_of };
 
+    ghost Told = { FaultTold };
+
+    ghost told = { fault_told };
+
     ghost meaning = { legs_meaning };
 
     ghost bounded = { λ s. (
@@ -112,7 +118,7 @@ impl Market for Legs {
     }
 
     fn tick(&mut self, tick: LegTick) -> Result<(), Fault>
-        ensures answer { result ≡ legs_answer (legs_of self.old) tick }
+        ensures answer { told_by fault_told result ≡ legs_answer (legs_of self.old) tick }
         ensures next { legs_of self.new ≡ legs_next (legs_of self.old) tick }
     {
         fault_of(self.count(), tick)?;

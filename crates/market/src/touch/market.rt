@@ -1,6 +1,7 @@
 // A touch as a market.
 ghost use Rattle.std.specs.Prelude.{◌≡◌};
-ghost use Rattle.market.specs.Meaning.{nothing_shown};
+ghost use Rattle.market.specs.Faults.{FaultTold, fault_told};
+ghost use Rattle.market.specs.Meaning.{nothing_shown, told_by};
 ghost use Rattle.market.specs.Prices.{in_limits, uncrossed};
 ghost use Rattle.market.specs.Touch.{touch_quote, touch_answer, touch_next, touch_meaning};
 ghost use Rattle.market.specs.declared.quote.Quote.{Quote};
@@ -26,7 +27,7 @@ fn in_order(bid: Option<i64>, offer: Option<i64>) -> bool
 
 // The first fault of a book's quote, if it has one.
 fn fault_of(quote: Quote) -> Result<(), Fault>
-    ensures { result ≡ touch_answer quote }
+    ensures { told_by fault_told result ≡ touch_answer quote }
 {
     if !inside(quote.bid) {
         return Err(Fault {
@@ -69,6 +70,10 @@ impl Market for Touch {
 
     ghost position = { touch_quote };
 
+    ghost Told = { FaultTold };
+
+    ghost told = { fault_told };
+
     ghost meaning = { touch_meaning };
 
     ghost bounded = { Prim.search rules };
@@ -83,7 +88,7 @@ impl Market for Touch {
     }
 
     fn tick(&mut self, tick: Quote) -> Result<(), Fault>
-        ensures answer { result ≡ touch_answer tick }
+        ensures answer { told_by fault_told result ≡ touch_answer tick }
         ensures next { touch_quote self.new ≡ touch_next (touch_quote self.old) tick }
     {
         fault_of(tick)?;
