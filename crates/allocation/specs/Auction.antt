@@ -13,7 +13,6 @@ use Rattle.allocation.specs.FillList.{fill_list, order_levels}
 use Rattle.allocation.specs.Levels.{Level}
 use Rattle.allocation.specs.OnlyRows.{LawfulRows}
 use Rattle.allocation.specs.Rankings.{Ordered}
-use Rattle.allocation.specs.Refusals.{fill_refusal}
 use Rattle.allocation.specs.Table.{standing, place_of, rewritten, without_place, any_below}
 
 -- The order with its guarantee as stored, the range, and the responses that stand; prices are turned.
@@ -44,8 +43,8 @@ abbrev pub auction_fills : (Response → Response → Bool) → AuctionValues �
 auction_fills ahead a = fill_list ahead a.order a.initiating a.stood
 
 -- A list of rows under 129 is refusal 6; otherwise the answer is how many rows were written.
-abbrev pub fill_answer : List FillRow → List FillRow → Result ℕ FillRefusal
-fill_answer fills rows = cond (nat_lt (length rows) 129) (Err (fill_refusal 6)) (Ok (length fills))
+abbrev pub fill_answer : List FillRow → List FillRow → Result ℕ ℕ
+fill_answer fills rows = cond (nat_lt (length rows) 129) (Err 6) (Ok (length fills))
 
 -- The rows are written from the first on, and those past them stay; a refusal writes none.
 abbrev pub rows_after : List FillRow → List FillRow → List FillRow

@@ -1,4 +1,4 @@
--- The refusal of a fill list, by number.
+-- The refusal of a fill list, told by its number.
 use Rattle.std.specs.Prelude.{ℕ}
 use Rattle.allocation.specs.declared.refusal.FillRefusal.{FillRefusal}
 use Rattle.allocation.specs.declared.refusal.FillRefusal.TheVariants.{ListTooShort}
@@ -6,7 +6,3 @@ use Rattle.allocation.specs.declared.refusal.FillRefusal.TheVariants.{ListTooSho
 -- 6 a fill list under 129 rows.
 abbrev pub fill_number : FillRefusal → ℕ
 fill_number ListTooShort = 6
-
--- The refusal of the number 6.
-abbrev pub fill_refusal : ℕ → FillRefusal
-fill_refusal n = ListTooShort

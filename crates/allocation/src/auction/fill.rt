@@ -1,8 +1,10 @@
 // The fill list of an auction.
 ghost use Rattle.std.specs.Prelude.{◌≡◌, ◌≤◌, ◌++◌, length, drop};
+ghost use Rattle.market.specs.Meaning.{told_by};
 ghost use Rattle.allocation.specs.Auction.{auction_values, auction_fills, fill_answer, rows_after, LawfullyFilled, LevelsInRankingOrder};
 ghost use Rattle.allocation.specs.FillList.{contra_terms};
 ghost use Rattle.allocation.specs.Rankings.{by_key};
+ghost use Rattle.allocation.specs.Refusals.{fill_number};
 ghost use Rattle.allocation.specs.Splits.{guaranteed};
 ghost use Rattle.allocation.specs.Table.{standing};
 
@@ -57,7 +59,7 @@ impl Auction {
     // Shares out the order's contracts among the responses that stand and the contra firm, and writes who gets how many
     // at which price.
     pub fn fill<R: Ranking>(&self, ranking: &R, rows: &mut [FillRow]) -> Result<usize, FillRefusal>
-        ensures answer { result ≡ fill_answer (auction_fills (by_key (R.Ranking.ahead ranking.now)) (auction_values self.now)) rows.old }
+        ensures answer { told_by fill_number result ≡ fill_answer (auction_fills (by_key (R.Ranking.ahead ranking.now)) (auction_values self.now)) rows.old }
         ensures rows { rows.new ≡ rows_after (auction_fills (by_key (R.Ranking.ahead ranking.now)) (auction_values self.now)) rows.old }
         ensures ranked { LevelsInRankingOrder (by_key (R.Ranking.ahead ranking.now)) (auction_values self.now) }
         ensures laws { LawfullyFilled (R.Ranking.ahead ranking.now) (auction_values self.now) result rows.old rows.new }
