@@ -7,21 +7,20 @@ use Rattle.room.specs.declared.requests.OpeningRequest.{OpeningRequest}
 use Rattle.room.specs.declared.requests.ResponseRequest.{ResponseRequest}
 use Rattle.room.specs.Checks.{open_checks, respond_checks, change_checks, time_checked, price_checked, size_checked, member_checked, own_checked}
 
-module _ (F : Type 0) where
-  pub opening_sized : (x : OpeningRequest) → open_checks {F = F} x ≡ None → leb 1 x.order.size ≡ true
-  opening_sized x h = grind (arith, nat_tests)
+pub opening_sized : (x : OpeningRequest) → open_checks x ≡ None → leb 1 x.order.size ≡ true
+opening_sized x h = grind (arith, nat_tests)
 
-  -- size, member and own number inside their limits
-  pub record TermsInside (size member own : ℕ) : Type 0 where
-    pub sized : leb 1 size ≡ true
-    pub member_inside : from_to 1 16 member ≡ true
-    pub own_inside : from_to 1 4 own ≡ true
+-- size, member and own number inside their limits
+pub record TermsInside (size member own : ℕ) : Type 0 where
+  pub sized : leb 1 size ≡ true
+  pub member_inside : from_to 1 16 member ≡ true
+  pub own_inside : from_to 1 4 own ≡ true
 
-  terms_inside : (time : ℕ) (price : ℤ) (size member own : ℕ) → time_checked {F = F} time (price_checked price (size_checked size (member_checked member (own_checked own None)))) ≡ None → TermsInside size member own
-  terms_inside time price size member own h = record { sized = grind (arith, nat_tests); member_inside = grind (arith, nat_tests); own_inside = grind (arith, nat_tests) }
+terms_inside : (time : ℕ) (price : ℤ) (size member own : ℕ) → time_checked time (price_checked price (size_checked size (member_checked member (own_checked own None)))) ≡ None → TermsInside size member own
+terms_inside time price size member own h = record { sized = grind (arith, nat_tests); member_inside = grind (arith, nat_tests); own_inside = grind (arith, nat_tests) }
 
-  pub response_inside : (x : ResponseRequest) → respond_checks {F = F} x ≡ None → TermsInside x.size x.member x.own
-  response_inside x h = terms_inside x.time x.price x.size x.member x.own h
+pub response_inside : (x : ResponseRequest) → respond_checks x ≡ None → TermsInside x.size x.member x.own
+response_inside x h = terms_inside x.time x.price x.size x.member x.own h
 
-  pub change_inside : (x : ChangeRequest) → change_checks {F = F} x ≡ None → TermsInside x.size x.member x.own
-  change_inside x h = terms_inside x.time x.price x.size x.member x.own h
+pub change_inside : (x : ChangeRequest) → change_checks x ≡ None → TermsInside x.size x.member x.own
+change_inside x h = terms_inside x.time x.price x.size x.member x.own h

@@ -1,6 +1,5 @@
 -- The two places for auctions that wait: an auction that is opened while none waits leaves the second place free.
-use Rattle.std.proofs.Common.{◌≡◌, ◌≤◌, Bool, true, false, List, [], ◌∷◌, length, is_some, Some, None, Option, refl, ap, ◌∙◌, arith}
-use Rattle.allocation.specs.declared.cause.EndCause.{EndCause}
+use Rattle.std.proofs.Common.{◌≡◌, ℕ, ◌≤◌, Bool, true, false, List, [], ◌∷◌, length, is_some, Some, None, Option, refl, ap, ◌∙◌, arith}
 use Rattle.room.specs.declared.auction.WaitingAuction.{WaitingAuction}
 use Rattle.room.specs.Openings.{any_waits}
 use Rattle.room.specs.Places.{places_ok}
@@ -12,7 +11,7 @@ none_listed : (es : List EndedAuction) → any_waits es ≡ false → es ≡ []
 none_listed [] h = refl
 none_listed (e ∷ es) h = true_false h
 
-one_closed : (c : EndCause) (o : Option OpenAuction) → length (closed c o []) ≤ 1
+one_closed : (c : ℕ) (o : Option OpenAuction) → length (closed c o []) ≤ 1
 one_closed c None = omega arith
 one_closed c (Some a) = omega arith
 
@@ -22,7 +21,7 @@ one_place b None (Some x) h k = h
 one_place b (Some a) (Some x) h k = absurd (omega arith)
 
 -- the open auction, if there was one, has the first place
-pub second_free : (c : EndCause) (o : Option OpenAuction) (es : List EndedAuction) (b : Bool) (f s : Option WaitingAuction) → any_waits es ≡ false → listed f s ≡ closed c o es → places_ok b (is_some f) (is_some s) ≡ true
+pub second_free : (c : ℕ) (o : Option OpenAuction) (es : List EndedAuction) (b : Bool) (f s : Option WaitingAuction) → any_waits es ≡ false → listed f s ≡ closed c o es → places_ok b (is_some f) (is_some s) ≡ true
     → places_ok true (is_some f) (is_some s) ≡ true
 second_free c o es b f s h e k =
     let few = one_closed c o in

@@ -22,7 +22,6 @@ use Rattle.allocation.specs.Table.{is_of, restored, own_changed, without_own, an
 use Rattle.room.specs.Openings.{new_values}
 use Rattle.room.specs.Responses.{}
 use Rattle.room.specs.Ticks.{above_stop, ends_for, tick_cause, floor_now}
-use Rattle.allocation.specs.declared.cause.EndCause.{EndCause}
 use Rattle.room.proofs.Tests.{both_true, left_true, right_true, or_false_left, or_false_right, none_some, ok_err, cond_ok, cond_ok_else}
 
 pub record Sound (v : AuctionValues) : Type 0 where
@@ -124,7 +123,7 @@ stop_refloored SingleStop new z h = grind (arith, ints, nat_tests)
 stop_refloored AutoMatchLimit new z h = refl
 
 -- a test that brings no cause failed
-pub ends_for_none : (b : Bool) (c : EndCause) (further : Option EndCause) → ends_for b c further ≡ None → (b ≡ false) × (further ≡ None)
+pub ends_for_none : (b : Bool) (c : ℕ) (further : Option ℕ) → ends_for b c further ≡ None → (b ≡ false) × (further ≡ None)
 ends_for_none true c further h = none_some c (sym h)
 ends_for_none false c further h = (refl, h)
 

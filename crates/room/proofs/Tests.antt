@@ -1,7 +1,6 @@
 -- Small facts on tests and refusals: what follows from a test that did not refuse.
 use Rattle.std.proofs.Common.{◌≡◌, ℕ, Bool, true, false, cond, ◌&&◌, ◌||◌, Some, None, Ok, Err, Option, Result, sym, refl}
 use Rattle.std.proofs.lemmas.Bool.{true≢false, and_from, and_parts, or_parts}
-use Rattle.room.specs.declared.refusal.Refusal.{Refusal}
 use Rattle.room.specs.Refusals.{refuse, unless, and_then}
 
 pub true_false : {X : Type 0} → true ≡ false → X
@@ -29,7 +28,7 @@ pub or_false_right : (a b : Bool) → (a || b) ≡ false → b ≡ false
 or_false_right a b h = (or_parts a b h).1
 
 -- a test that refuses nothing fails, and so do those behind it
-pub refuse_none : {F : Type 0} (b : Bool) (n : ℕ) (further : Option (Refusal F)) → refuse b n further ≡ None → (b ≡ false) × (further ≡ None)
+pub refuse_none : (b : Bool) (n : ℕ) (further : Option ℕ) → refuse b n further ≡ None → (b ≡ false) × (further ≡ None)
 refuse_none true n further h = none_some _ (sym h)
 refuse_none false n further h = (refl, h)
 

@@ -1,6 +1,7 @@
 -- The clock step, with which every timed call begins.
 use Rattle.std.specs.Prelude.{ℕ, max, Bool, false, cond, Some, None, Err, Option, Result, nat_le}
-use Rattle.allocation.specs.declared.cause.EndCause.TheVariants.{Deadline}
+use Rattle.std.specs.Str.{byte}
+use Rattle.room.specs.Refusals.{RefusalTold, by_number}
 use Rattle.room.specs.State.{OpenAuction, RoomState, at_time, ended}
 
 -- The open auction's deadline is reached at this time.
@@ -9,11 +10,11 @@ due t None = false
 due t (Some a) = nat_le a.deadline t
 
 module _ {P Q : Type 0} where
-  -- The room's time becomes the later of its own and the given one; then an auction whose deadline is reached ends.
+  -- The room's time becomes the later of its own and the given one; then an auction whose deadline is reached ends, cause T.
   abbrev pub clocked : RoomState P Q → ℕ → RoomState P Q
-  clocked s t = let u = at_time (max s.time t) s in cond (due u.time u.current) (ended Deadline u) u
+  clocked s t = let u = at_time (max s.time t) s in cond (due u.time u.current) (ended (byte "T") u) u
 
   -- A timed call: what its input checks refuse changes nothing; otherwise the clock step comes first.
-  abbrev pub timed : {Y R : Type 0} → Option R → RoomState P Q → ℕ → (RoomState P Q → RoomState P Q × Result Y R) → RoomState P Q × Result Y R
+  abbrev pub timed : {Y F : Type 0} → Option ℕ → RoomState P Q → ℕ → (RoomState P Q → RoomState P Q × Result Y (RefusalTold F)) → RoomState P Q × Result Y (RefusalTold F)
   timed None s t business = business (clocked s t)
-  timed (Some e) s t business = (s, Err e)
+  timed (Some n) s t business = (s, Err (by_number n))

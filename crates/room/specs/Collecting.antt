@@ -4,41 +4,43 @@ use Rattle.allocation.specs.declared.fill.FillRow.{FillRow}
 use Rattle.allocation.specs.Auction.{auction_fills}
 use Rattle.allocation.specs.Rankings.{by_key}
 use Rattle.room.specs.declared.answers.ClaimNumbers.{ClaimNumbers}
-use Rattle.room.specs.declared.answers.Collection.{Collection}
-use Rattle.room.specs.declared.refusal.Refusal.{Refusal}
 use Rattle.room.specs.Checks.{collect_checks}
-use Rattle.room.specs.Refusals.{refusal, refuse, unless, outcome}
+use Rattle.room.specs.Refusals.{RefusalTold, refuse, unless, outcome}
 use Rattle.room.specs.State.{EndedAuction, RoomState, is_number, numbered, without_number, with_waiting}
 use Rattle.room.specs.World.{World}
 
-module _ {F : Type 0} where
-  -- 42: the auction neither is open nor waits. (One that is open was refused before.)
-  abbrev pub waiting_now : Option EndedAuction → Result EndedAuction (Refusal F)
-  waiting_now None = Err (refusal 42)
-  waiting_now (Some e) = Ok e
+-- What is told of a collecting: how many rows the fill list has, and the letter of the cause for which the auction ended.
+pub record CollectionTold : Type 0 where
+  pub count : ℕ
+  pub cause : ℕ
 
-  -- The auction of a claim: 6 a list under 129 rows; 42 a claim with another room's number (rooms of one number take each
-  -- other's); 41 the auction is still open.
-  abbrev pub collectable : {P Q : Type 0} → RoomState P Q → ClaimNumbers → ℕ → Result EndedAuction (Refusal F)
-  collectable s claim rows =
-      unless (collect_checks rows)
-      (unless (refuse (not (claim.room == s.number)) 42 (refuse (is_number claim.auction s.current) 41 None))
-      (waiting_now (numbered claim.auction s.waiting)))
+-- 42: the auction neither is open nor waits. (One that is open was refused before.)
+abbrev pub waiting_now : Option EndedAuction → Result EndedAuction ℕ
+waiting_now None = Err 42
+waiting_now (Some e) = Ok e
+
+-- The auction of a claim: 6 a list under 129 rows; 42 a claim with another room's number (rooms of one number take each
+-- other's); 41 the auction is still open.
+abbrev pub collectable : {P Q : Type 0} → RoomState P Q → ClaimNumbers → ℕ → Result EndedAuction ℕ
+collectable s claim rows =
+    unless (collect_checks rows)
+    (unless (refuse (not (claim.room == s.number)) 42 (refuse (is_number claim.auction s.current) 41 None))
+    (waiting_now (numbered claim.auction s.waiting)))
 
 module _ {P T F Q : Type 0} (w : World P T F Q) where
   -- The rows of an ended auction.
   abbrev pub fill_rows : EndedAuction → List FillRow
   fill_rows e = auction_fills (by_key w.ahead) e.values
 
-  -- The claim is spent and the auction waits no longer. The answer is the row count and the cause.
-  abbrev pub collect_call : RoomState P Q → ClaimNumbers → ℕ → RoomState P Q × Result Collection (Refusal F)
+  -- The claim is spent and the auction waits no longer. The answer is the row count and the cause's letter.
+  abbrev pub collect_call : RoomState P Q → ClaimNumbers → ℕ → RoomState P Q × Result CollectionTold (RefusalTold F)
   collect_call s claim rows =
       outcome (collectable s claim rows) s (λ e. with_waiting (without_number claim.auction s.waiting) s) (λ e. record { count = length (fill_rows e); cause = e.cause })
 
   -- The rows that are written, from the first on; a refused collecting writes none.
-  abbrev pub written : Result EndedAuction (Refusal F) → List FillRow
+  abbrev pub written : Result EndedAuction ℕ → List FillRow
   written (Ok e) = fill_rows e
-  written (Err r) = []
+  written (Err n) = []
 
   abbrev pub collect_rows : RoomState P Q → ClaimNumbers → ℕ → List FillRow
   collect_rows s claim rows = written (collectable s claim rows)

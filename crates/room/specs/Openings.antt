@@ -1,20 +1,17 @@
 -- Opening an auction.
-use Rattle.std.specs.Prelude.{ℕ, ◌+◌, Bool, true, false, List, [], ◌∷◌, replicate, ℤ, Some, None, Ok, Err, Option, Result, int_lt, nat_le}
+use Rattle.std.specs.Prelude.{ℕ, ◌+◌, Bool, true, false, List, [], ◌∷◌, replicate, ℤ, Some, None, Ok, Option, Result, int_lt, nat_le}
 use Rattle.std.specs.Int.{int_max}
-use Rattle.market.specs.declared.refusal.RangeRefusal.{RangeRefusal}
+use Rattle.std.specs.Str.{byte}
 use Rattle.market.specs.Range.{RangePrices, permitted}
-use Rattle.market.specs.Refusals.{range_number}
 use Rattle.market.specs.Turned.{turned}
-use Rattle.allocation.specs.declared.cause.EndCause.TheVariants.{NextAuction}
 use Rattle.allocation.specs.declared.order.Guarantee.{Guarantee}
 use Rattle.allocation.specs.declared.order.PairedOrder.{PairedOrder}
 use Rattle.allocation.specs.Auction.{AuctionValues}
 use Rattle.room.specs.declared.answers.ClaimNumbers.{ClaimNumbers}
-use Rattle.room.specs.declared.refusal.Refusal.{Refusal}
 use Rattle.room.specs.declared.requests.OpeningRequest.{OpeningRequest}
 use Rattle.room.specs.Checks.{open_checks}
 use Rattle.room.specs.Clock.{timed}
-use Rattle.room.specs.Refusals.{refusal, refuse, unless, and_then, outcome}
+use Rattle.room.specs.Refusals.{RefusalTold, refuse, unless, and_then, outcome}
 use Rattle.room.specs.State.{OpenAuction, EndedAuction, RoomState, closed}
 use Rattle.room.specs.World.{World}
 
@@ -37,19 +34,13 @@ abbrev pub any_waits : List EndedAuction → Bool
 any_waits [] = false
 any_waits (e ∷ es) = true
 
-module _ {F : Type 0} where
-  -- A range that was refused, 14 or 15, is the room's refusal of the same number.
-  abbrev pub range_told : Result RangePrices RangeRefusal → Result RangePrices (Refusal F)
-  range_told (Ok r) = Ok r
-  range_told (Err e) = Err (refusal (range_number e))
+-- 12 the room is halted, 13 an auction waits.
+abbrev pub room_refusal : Bool → List EndedAuction → Option ℕ
+room_refusal halted waiting = refuse halted 12 (refuse (any_waits waiting) 13 None)
 
-  -- 12 the room is halted, 13 an auction waits.
-  abbrev pub room_refusal : Bool → List EndedAuction → Option (Refusal F)
-  room_refusal halted waiting = refuse halted 12 (refuse (any_waits waiting) 13 None)
-
-  -- 16 the guarantee is above the initiating price, 17 a million auctions were opened.
-  abbrev pub guarantee_refusal : PairedOrder → ℕ → RangePrices → Option (Refusal F)
-  guarantee_refusal o opened r = refuse (int_lt r.initiating (turned o.side o.guarantee.price)) 16 (refuse (nat_le 1000000 opened) 17 None)
+-- 16 the guarantee is above the initiating price, 17 a million auctions were opened.
+abbrev pub guarantee_refusal : PairedOrder → ℕ → RangePrices → Option ℕ
+guarantee_refusal o opened r = refuse (int_lt r.initiating (turned o.side o.guarantee.price)) 16 (refuse (nat_le 1000000 opened) 17 None)
 
 -- A new auction of an order and its range, with no response yet.
 abbrev pub new_values : PairedOrder → RangePrices → AuctionValues
@@ -60,11 +51,12 @@ abbrev pub none_used : List ℕ
 none_used = replicate 16 0
 
 module _ {P T F Q : Type 0} (w : World P T F Q) where
-  -- The range of an order that may open, or the first refusal: 12, 13, then 14 and 15 by what the market shows, 16, 17.
-  abbrev pub opening_range : RoomState P Q → PairedOrder → Result RangePrices (Refusal F)
+  -- The range of an order that may open, or the first refusal: 12, 13, then 14 and 15, the refusals of the range by what
+  -- the market shows, 16, 17.
+  abbrev pub opening_range : RoomState P Q → PairedOrder → Result RangePrices ℕ
   opening_range s o =
       unless (room_refusal s.halted s.waiting)
-      (and_then (range_told (permitted o.side o.limit (w.market.shows s.position)))
+      (and_then (permitted o.side o.limit (w.market.shows s.position))
       (λ r. unless (guarantee_refusal o s.opened r) (Ok r)))
 
   -- One interval is drawn, and the deadline is the room's time plus it. Auctions are counted from 1.
@@ -80,13 +72,13 @@ module _ {P T F Q : Type 0} (w : World P T F Q) where
     position = s.position;
     source = w.source.next s.source;
     current = Some (new_auction s o r);
-    waiting = closed NextAuction s.current s.waiting;
+    waiting = closed (byte "A") s.current s.waiting;
     opened = s.opened + 1;
   }
 
   -- The answer is a claim with the room's number and the auction's.
-  abbrev pub opening : RoomState P Q → PairedOrder → RoomState P Q × Result ClaimNumbers (Refusal F)
+  abbrev pub opening : RoomState P Q → PairedOrder → RoomState P Q × Result ClaimNumbers (RefusalTold F)
   opening s o = outcome (opening_range s o) s (opened_with s o) (λ _. record { room = s.number; auction = s.opened + 1 })
 
-  abbrev pub open_call : RoomState P Q → OpeningRequest → RoomState P Q × Result ClaimNumbers (Refusal F)
+  abbrev pub open_call : RoomState P Q → OpeningRequest → RoomState P Q × Result ClaimNumbers (RefusalTold F)
   open_call s x = timed (open_checks x) s x.time (λ u. opening u x.order)

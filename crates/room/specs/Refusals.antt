@@ -1,7 +1,21 @@
--- The refusals of a room, known by their numbers, and how a call comes to one: the first that holds is told.
-use Rattle.std.specs.Prelude.{ℕ, Bool, cond, Some, None, Ok, Err, Option, Result, ◌==◌}
+-- The refusals of a room, told by their numbers, and how a call comes to one: the first that holds is told.
+use Rattle.std.specs.Prelude.{◌≡◌, ℕ, Bool, cond, Some, None, Ok, Err, Option, Result, IfErr}
+use Rattle.std.specs.Option.{option_map}
 use Rattle.room.specs.declared.refusal.Refusal.{Refusal}
 use Rattle.room.specs.declared.refusal.Refusal.TheVariants.{TimeOverLimit, PriceOutsideLimits, SizeOutsideLimits, MemberOutsideLimits, OwnNumberOutsideLimits, ListTooShort, RoomHalted, AuctionWaits, SideShowsNoPrice, InitiatingBelowFloor, GuaranteeAboveInitiating, OpeningsUsedUp, NoAuctionOpen, SameSide, AboveInitiating, OwnNumberInUse, NoSuchResponse, ResponseIsPlain, ResponsesUsedUp, MarketFault, StillOpen, NoSuchAuction}
+
+-- A refusal as it is told: its number, and what is told of the market's fault, if it holds one.
+pub record RefusalTold (F : Type 0) : Type 0 where
+  pub number : ℕ
+  pub fault : Option F
+
+-- A refusal of this number that holds no fault.
+abbrev pub by_number : {F : Type 0} → ℕ → RefusalTold F
+by_number n = record { number = n; fault = None }
+
+-- 31, with what is told of the market's fault.
+abbrev pub by_fault : {F : Type 0} → F → RefusalTold F
+by_fault f = record { number = 31; fault = Some f }
 
 -- Of what is handed in: 1 time over its limit, 2 a price outside its limits, 3 a size, 4 a member, 5 an own number, 6 a
 -- list of rows that is too short.
@@ -34,33 +48,22 @@ refusal_number (MarketFault f) = 31
 refusal_number StillOpen = 41
 refusal_number NoSuchAuction = 42
 
--- The refusal of a number other than 31, which needs the market's fault.
-abbrev pub refusal : {F : Type 0} → ℕ → Refusal F
-refusal n =
-    cond (n == 1) TimeOverLimit
-    (cond (n == 2) PriceOutsideLimits
-    (cond (n == 3) SizeOutsideLimits
-    (cond (n == 4) MemberOutsideLimits
-    (cond (n == 5) OwnNumberOutsideLimits
-    (cond (n == 6) ListTooShort
-    (cond (n == 12) RoomHalted
-    (cond (n == 13) AuctionWaits
-    (cond (n == 14) SideShowsNoPrice
-    (cond (n == 15) InitiatingBelowFloor
-    (cond (n == 16) GuaranteeAboveInitiating
-    (cond (n == 17) OpeningsUsedUp
-    (cond (n == 21) NoAuctionOpen
-    (cond (n == 22) SameSide
-    (cond (n == 23) AboveInitiating
-    (cond (n == 24) OwnNumberInUse
-    (cond (n == 25) NoSuchResponse
-    (cond (n == 26) ResponseIsPlain
-    (cond (n == 27) ResponsesUsedUp
-    (cond (n == 41) StillOpen NoSuchAuction)))))))))))))))))))
+-- The market's fault, whole, where the refusal holds it.
+abbrev pub fault_held : {F : Type 0} → Refusal F → Option F
+fault_held (MarketFault f) = Some f
+fault_held _ = None
+
+-- What is told of a refusal, where `f` is what is told of the market's fault.
+abbrev pub refusal_told : {F G : Type 0} → (F → G) → Refusal F → RefusalTold G
+refusal_told f e = record { number = refusal_number e; fault = option_map f (fault_held e) }
+
+-- The refusal, if the result is one, holds no fault.
+abbrev pub HoldsNoFault : {X F : Type 0} → Result X (Refusal F) → Type 0
+HoldsNoFault r = IfErr r (λ e. fault_held e ≡ None)
 
 -- The refusal of this number where the test holds, and otherwise what the further tests say.
-abbrev pub refuse : {F : Type 0} → Bool → ℕ → Option (Refusal F) → Option (Refusal F)
-refuse test n further = cond test (Some (refusal n)) further
+abbrev pub refuse : Bool → ℕ → Option ℕ → Option ℕ
+refuse test n further = cond test (Some n) further
 
 -- A refusal comes before what would otherwise be answered.
 abbrev pub unless : {X R : Type 0} → Option R → Result X R → Result X R
@@ -72,10 +75,10 @@ abbrev pub and_then : {X Y R : Type 0} → Result X R → (X → Result Y R) →
 and_then (Ok x) f = f x
 and_then (Err e) f = Err e
 
--- A refusal leaves the state; what is accepted has an effect and an answer.
-abbrev pub outcome : {S X Y R : Type 0} → Result X R → S → (X → S) → (X → Y) → S × Result Y R
+-- A refusal leaves the state and is told; what is accepted has an effect and an answer.
+abbrev pub outcome : {S X Y F : Type 0} → Result X ℕ → S → (X → S) → (X → Y) → S × Result Y (RefusalTold F)
 outcome (Ok x) s effect answer = (effect x, Ok (answer x))
-outcome (Err e) s effect answer = (s, Err e)
+outcome (Err n) s effect answer = (s, Err (by_number n))
 
 -- An answer with what it accepts seen as another value; a refusal stays.
 abbrev pub seen_as : {X Y R : Type 0} → Result X R → (X → Y) → Result Y R

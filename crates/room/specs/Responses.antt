@@ -1,23 +1,22 @@
 -- Responding to the open auction, changing a response and withdrawing one.
 use Rattle.std.specs.Prelude.{ℕ, ◌+◌, min, Bool, true, false, cond, List, [], ◌∷◌, ◌++◌, ℤ, is_some, Some, None, Ok, Err, Option, Result, int_lt, nat_le}
 use Rattle.std.specs.Int.{int_max}
+use Rattle.std.specs.Str.{byte}
 use Rattle.market.specs.declared.side.Side.{Side}
 use Rattle.market.specs.declared.side.Side.TheVariants.{Buy, Sell}
 use Rattle.market.specs.Turned.{turned}
-use Rattle.allocation.specs.declared.cause.EndCause.TheVariants.{PlainBelowFloor}
 use Rattle.allocation.specs.declared.response.Kind.{Kind}
 use Rattle.allocation.specs.declared.response.Kind.TheVariants.{Sealed, Plain}
 use Rattle.allocation.specs.declared.response.Response.{Response}
 use Rattle.allocation.specs.Auction.{with_stood}
 use Rattle.allocation.specs.Table.{own_response, own_changed, without_own}
 use Rattle.room.specs.declared.answers.StoredTerms.{StoredTerms}
-use Rattle.room.specs.declared.refusal.Refusal.{Refusal}
 use Rattle.room.specs.declared.requests.ChangeRequest.{ChangeRequest}
 use Rattle.room.specs.declared.requests.ResponseRequest.{ResponseRequest}
 use Rattle.room.specs.declared.requests.WithdrawRequest.{WithdrawRequest}
 use Rattle.room.specs.Checks.{respond_checks, change_checks, withdraw_checks}
 use Rattle.room.specs.Clock.{timed}
-use Rattle.room.specs.Refusals.{refusal, refuse, unless, and_then, outcome}
+use Rattle.room.specs.Refusals.{RefusalTold, refuse, unless, and_then, outcome}
 use Rattle.room.specs.State.{OpenAuction, RoomState, used_by, one_more, with_current, ended}
 
 -- Both buy, or both sell.
@@ -64,62 +63,61 @@ with_remaining a xs = record { number = a.number; deadline = a.deadline; values 
 abbrev pub plain_below_floor : OpenAuction → ResponseRequest → Bool
 plain_below_floor a x = cond (is_plain x.kind) (int_lt (turned_in a x.price) a.values.floor) false
 
-module _ {F : Type 0} where
-  -- 21: no auction is open.
-  abbrev pub open_now : Option OpenAuction → Result OpenAuction (Refusal F)
-  open_now None = Err (refusal 21)
-  open_now (Some a) = Ok a
+-- 21: no auction is open.
+abbrev pub open_now : Option OpenAuction → Result OpenAuction ℕ
+open_now None = Err 21
+open_now (Some a) = Ok a
 
-  -- 22: the response is on the order's side.
-  abbrev pub side_checked : OpenAuction → Side → Option (Refusal F) → Option (Refusal F)
-  side_checked a side = refuse (same_side side a.values.order.side) 22
+-- 22: the response is on the order's side.
+abbrev pub side_checked : OpenAuction → Side → Option ℕ → Option ℕ
+side_checked a side = refuse (same_side side a.values.order.side) 22
 
-  -- 23: the price exceeds the initiating price.
-  abbrev pub above_checked : OpenAuction → ℤ → Option (Refusal F) → Option (Refusal F)
-  above_checked a price = refuse (int_lt a.values.initiating (turned_in a price)) 23
+-- 23: the price exceeds the initiating price.
+abbrev pub above_checked : OpenAuction → ℤ → Option ℕ → Option ℕ
+above_checked a price = refuse (int_lt a.values.initiating (turned_in a price)) 23
 
-  -- 24: the member has a response of this own number standing.
-  abbrev pub in_use_checked : OpenAuction → ℕ → ℕ → Option (Refusal F) → Option (Refusal F)
-  in_use_checked a member own = refuse (is_some (own_response member own a.values.stood)) 24
+-- 24: the member has a response of this own number standing.
+abbrev pub in_use_checked : OpenAuction → ℕ → ℕ → Option ℕ → Option ℕ
+in_use_checked a member own = refuse (is_some (own_response member own a.values.stood)) 24
 
-  -- 27: a member has 10,000 accepted responses and changes in an auction.
-  abbrev pub used_checked : OpenAuction → ℕ → Option (Refusal F) → Option (Refusal F)
-  used_checked a member = refuse (nat_le 10000 (used_by member a.used)) 27
+-- 27: a member has 10,000 accepted responses and changes in an auction.
+abbrev pub used_checked : OpenAuction → ℕ → Option ℕ → Option ℕ
+used_checked a member = refuse (nat_le 10000 (used_by member a.used)) 27
 
-  -- 25: the member has no response of this own number standing.
-  abbrev pub standing_now : Option Response → Result Response (Refusal F)
-  standing_now None = Err (refusal 25)
-  standing_now (Some x) = Ok x
+-- 25: the member has no response of this own number standing.
+abbrev pub standing_now : Option Response → Result Response ℕ
+standing_now None = Err 25
+standing_now (Some x) = Ok x
 
-  -- 26: it is plain.
-  abbrev pub plain_checked : Response → Option (Refusal F) → Option (Refusal F)
-  plain_checked x = refuse (is_plain x.kind) 26
+-- 26: it is plain.
+abbrev pub plain_checked : Response → Option ℕ → Option ℕ
+plain_checked x = refuse (is_plain x.kind) 26
 
-  -- What the open auction refuses a response for: 22, 23, 24, 27.
-  abbrev pub response_refusal : OpenAuction → ResponseRequest → Option (Refusal F)
-  response_refusal a x = side_checked a x.side (above_checked a x.price (in_use_checked a x.member x.own (used_checked a x.member None)))
+-- What the open auction refuses a response for: 22, 23, 24, 27.
+abbrev pub response_refusal : OpenAuction → ResponseRequest → Option ℕ
+response_refusal a x = side_checked a x.side (above_checked a x.price (in_use_checked a x.member x.own (used_checked a x.member None)))
 
-  -- What it refuses a change of this standing response for: 26, 23, 27.
-  abbrev pub change_refusal : OpenAuction → Response → ChangeRequest → Option (Refusal F)
-  change_refusal a y x = plain_checked y (above_checked a x.price (used_checked a x.member None))
+-- What it refuses a change of this standing response for: 26, 23, 27.
+abbrev pub change_refusal : OpenAuction → Response → ChangeRequest → Option ℕ
+change_refusal a y x = plain_checked y (above_checked a x.price (used_checked a x.member None))
 
-  -- The open auction, if it takes the response: 21, then 22 to 27.
-  abbrev pub responding_to : Option OpenAuction → ResponseRequest → Result OpenAuction (Refusal F)
-  responding_to current x = and_then (open_now current) (λ a. unless (response_refusal a x) (Ok a))
+-- The open auction, if it takes the response: 21, then 22 to 27.
+abbrev pub responding_to : Option OpenAuction → ResponseRequest → Result OpenAuction ℕ
+responding_to current x = and_then (open_now current) (λ a. unless (response_refusal a x) (Ok a))
 
-  -- The open auction, if the response may be changed: 21, 25, 26, 23, 27.
-  abbrev pub changing_in : Option OpenAuction → ChangeRequest → Result OpenAuction (Refusal F)
-  changing_in current x =
-      and_then (open_now current)
-      (λ a. and_then (standing_now (own_response x.member x.own a.values.stood))
-      (λ y. unless (change_refusal a y x) (Ok a)))
+-- The open auction, if the response may be changed: 21, 25, 26, 23, 27.
+abbrev pub changing_in : Option OpenAuction → ChangeRequest → Result OpenAuction ℕ
+changing_in current x =
+    and_then (open_now current)
+    (λ a. and_then (standing_now (own_response x.member x.own a.values.stood))
+    (λ y. unless (change_refusal a y x) (Ok a)))
 
-  -- The open auction and the response, if it may be withdrawn: 21, 25, 26.
-  abbrev pub withdrawing_from : Option OpenAuction → WithdrawRequest → Result (OpenAuction × Response) (Refusal F)
-  withdrawing_from current x =
-      and_then (open_now current)
-      (λ a. and_then (standing_now (own_response x.member x.own a.values.stood))
-      (λ y. unless (plain_checked y None) (Ok (a, y))))
+-- The open auction and the response, if it may be withdrawn: 21, 25, 26.
+abbrev pub withdrawing_from : Option OpenAuction → WithdrawRequest → Result (OpenAuction × Response) ℕ
+withdrawing_from current x =
+    and_then (open_now current)
+    (λ a. and_then (standing_now (own_response x.member x.own a.values.stood))
+    (λ y. unless (plain_checked y None) (Ok (a, y))))
 
 -- The auction with the response behind the others.
 abbrev pub with_response : OpenAuction → ResponseRequest → OpenAuction
@@ -136,28 +134,28 @@ with_withdrawal a x = with_remaining a (without_own x.member x.own a.values.stoo
 
 -- The response is stored; a plain one priced below the floor then ends the auction, cause E.
 abbrev pub responded : {P Q : Type 0} → RoomState P Q → OpenAuction → ResponseRequest → RoomState P Q
-responded s a x = let t = with_current (with_response a x) s in cond (plain_below_floor a x) (ended PlainBelowFloor t) t
+responded s a x = let t = with_current (with_response a x) s in cond (plain_below_floor a x) (ended (byte "E") t) t
 
 module _ {P F Q : Type 0} where
-  abbrev pub responding : RoomState P Q → ResponseRequest → RoomState P Q × Result StoredTerms (Refusal F)
+  abbrev pub responding : RoomState P Q → ResponseRequest → RoomState P Q × Result StoredTerms (RefusalTold F)
   responding s x =
       outcome (responding_to s.current x) s (λ a. responded s a x) (λ a. terms_told a (stored_price a x.price) (stored_size a x.size))
 
-  abbrev pub respond_call : RoomState P Q → ResponseRequest → RoomState P Q × Result StoredTerms (Refusal F)
+  abbrev pub respond_call : RoomState P Q → ResponseRequest → RoomState P Q × Result StoredTerms (RefusalTold F)
   respond_call s x = timed (respond_checks x) s x.time (λ u. responding u x)
 
   -- A change stores a new price and size likewise, with a new arrival number.
-  abbrev pub changing : RoomState P Q → ChangeRequest → RoomState P Q × Result StoredTerms (Refusal F)
+  abbrev pub changing : RoomState P Q → ChangeRequest → RoomState P Q × Result StoredTerms (RefusalTold F)
   changing s x =
       outcome (changing_in s.current x) s (λ a. with_current (with_change a x) s) (λ a. terms_told a (stored_price a x.price) (stored_size a x.size))
 
-  abbrev pub change_call : RoomState P Q → ChangeRequest → RoomState P Q × Result StoredTerms (Refusal F)
+  abbrev pub change_call : RoomState P Q → ChangeRequest → RoomState P Q × Result StoredTerms (RefusalTold F)
   change_call s x = timed (change_checks x) s x.time (λ u. changing u x)
 
   -- A withdrawal answers what was stored.
-  abbrev pub withdrawing : RoomState P Q → WithdrawRequest → RoomState P Q × Result StoredTerms (Refusal F)
+  abbrev pub withdrawing : RoomState P Q → WithdrawRequest → RoomState P Q × Result StoredTerms (RefusalTold F)
   withdrawing s x =
       outcome (withdrawing_from s.current x) s (λ f. with_current (with_withdrawal f.0 x) s) (λ f. terms_told f.0 f.1.price f.1.size)
 
-  abbrev pub withdraw_call : RoomState P Q → WithdrawRequest → RoomState P Q × Result StoredTerms (Refusal F)
+  abbrev pub withdraw_call : RoomState P Q → WithdrawRequest → RoomState P Q × Result StoredTerms (RefusalTold F)
   withdraw_call s x = timed (withdraw_checks x) s x.time (λ u. withdrawing u x)

@@ -1,12 +1,14 @@
 -- The state of a room in code, as the model has it.
-use Rattle.std.specs.Prelude.{Bool, List, [], ◌∷◌, Some, None, Ok, Err, Option, Result}
+use Rattle.std.specs.Prelude.{ℕ, Bool, List, [], ◌∷◌, Some, None, Ok, Err, Option, Result}
 use Rattle.std.specs.Option.{option_map}
+use Rattle.std.specs.Result.{result_map_both}
 use Rattle.market.specs.declared.range.PermittedRange.{PermittedRange}
 use Rattle.market.specs.Meaning.{Meaning}
 use Rattle.market.specs.Range.{RangePrices, range_prices}
 use Rattle.interval.specs.Source.{SourceMeaning}
 use Rattle.allocation.specs.declared.response.Key.{Key}
 use Rattle.allocation.specs.Auction.{auction_values}
+use Rattle.allocation.specs.Causes.{cause_letter}
 use Rattle.room.specs.declared.answers.ClaimNumbers.{ClaimNumbers}
 use Rattle.room.specs.declared.answers.Collection.{Collection}
 use Rattle.room.specs.declared.auction.CurrentAuction.{CurrentAuction}
@@ -14,7 +16,8 @@ use Rattle.room.specs.declared.auction.WaitingAuction.{WaitingAuction}
 use Rattle.room.specs.declared.claim.Claim.{Claim}
 use Rattle.room.specs.declared.refusal.Refusal.{Refusal}
 use Rattle.room.specs.declared.room.Room.{Room}
-use Rattle.room.specs.Refusals.{seen_as}
+use Rattle.room.specs.Collecting.{CollectionTold}
+use Rattle.room.specs.Refusals.{RefusalTold, refusal_number, refusal_told}
 use Rattle.room.specs.State.{OpenAuction, EndedAuction, RoomState}
 use Rattle.room.specs.World.{World}
 
@@ -25,7 +28,7 @@ abbrev pub open_values : CurrentAuction → OpenAuction
 open_values a = record { number = a.number; deadline = a.deadline; values = auction_values a.auction; arrivals = a.arrivals; used = a.used }
 
 abbrev pub ended_values : WaitingAuction → EndedAuction
-ended_values e = record { number = e.number; values = auction_values e.auction; cause = e.cause }
+ended_values e = record { number = e.number; values = auction_values e.auction; cause = cause_letter e.cause }
 
 -- The auctions that wait, the oldest first.
 abbrev pub listed : Option WaitingAuction → Option WaitingAuction → List EndedAuction
@@ -34,23 +37,31 @@ listed None (Some b) = ended_values b ∷ []
 listed (Some a) None = ended_values a ∷ []
 listed (Some a) (Some b) = ended_values a ∷ (ended_values b ∷ [])
 
-module _ {F : Type 0} where
-  -- The numbers of the claim that an opening was answered, or the refusal.
-  abbrev pub claim_answer : Result Claim (Refusal F) → Result ClaimNumbers (Refusal F)
-  claim_answer r = seen_as r claim_numbers
+-- What a collecting tells: the cause by its letter.
+abbrev pub collection_told : Collection → CollectionTold
+collection_told k = record { count = k.count; cause = cause_letter k.cause }
 
-  -- The prices of a range, or the refusal.
-  abbrev pub range_result : Result PermittedRange (Refusal F) → Result RangePrices (Refusal F)
-  range_result r = seen_as r range_prices
+-- The prices of a range, or the refusal's number.
+abbrev pub range_result : {F : Type 0} → Result PermittedRange (Refusal F) → Result RangePrices ℕ
+range_result = result_map_both range_prices refusal_number
 
-  -- The values of an auction that waits, or the refusal.
-  abbrev pub waiting_result : Result WaitingAuction (Refusal F) → Result EndedAuction (Refusal F)
-  waiting_result r = seen_as r ended_values
+-- The values of an auction that waits, or the refusal's number.
+abbrev pub waiting_result : {F : Type 0} → Result WaitingAuction (Refusal F) → Result EndedAuction ℕ
+waiting_result = result_map_both ended_values refusal_number
 
-  -- A refused collecting hands the claim back.
-  abbrev pub collected_answer : Claim → Result Collection (Refusal F) → Result Collection (Refusal F × Claim)
-  collected_answer c (Ok k) = Ok k
-  collected_answer c (Err e) = Err (e, c)
+-- A refused collecting hands the claim back.
+abbrev pub collected_answer : {F : Type 0} → Claim → Result CollectionTold (RefusalTold F) → Result CollectionTold (RefusalTold F × Claim)
+collected_answer c (Ok k) = Ok k
+collected_answer c (Err e) = Err (e, c)
+
+module _ {F G : Type 0} (told : F → G) where
+  -- The numbers of the claim that an opening was answered, or what is told of the refusal.
+  abbrev pub claim_answer : Result Claim (Refusal F) → Result ClaimNumbers (RefusalTold G)
+  claim_answer = result_map_both claim_numbers (refusal_told told)
+
+  -- What a collecting tells, or what is told of the refusal, with the claim that came back.
+  abbrev pub collection_answer : Result Collection (Refusal F × Claim) → Result CollectionTold (RefusalTold G × Claim)
+  collection_answer = result_map_both collection_told (λ e. (refusal_told told e.0, e.1))
 
 -- What a room is made over.
 abbrev pub world_of : {P T F Q : Type 0} → Meaning P T F → SourceMeaning Q → (Key → Key → Bool) → World P T F Q

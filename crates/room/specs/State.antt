@@ -1,6 +1,5 @@
 -- A room's state.
 use Rattle.std.specs.Prelude.{ℕ, ◌+◌, ◌-◌, Bool, false, cond, List, [], ◌∷◌, ◌++◌, Some, None, Option, ◌==◌, slice_index, slice_set}
-use Rattle.allocation.specs.declared.cause.EndCause.{EndCause}
 use Rattle.allocation.specs.Auction.{AuctionValues}
 
 -- The auction that is open: its number, its deadline, its values (the order as stored, floor, initiating price and the
@@ -13,11 +12,11 @@ pub record OpenAuction : Type 0 where
   pub arrivals : ℕ
   pub used : List ℕ
 
--- An auction that has ended: its values as they were when it ended, and why it ended.
+-- An auction that has ended: its values as they were when it ended, and the letter of the cause for which it ended.
 pub record EndedAuction : Type 0 where
   pub number : ℕ
   pub values : AuctionValues
-  pub cause : EndCause
+  pub cause : ℕ
 
 -- A room over a market of positions P and a source of positions Q: its number, its time, halted or not, the two
 -- positions, the open auction, those that have ended and wait to be collected, the oldest first, and how many were opened.
@@ -50,8 +49,8 @@ abbrev pub without_number : ℕ → List EndedAuction → List EndedAuction
 without_number n [] = []
 without_number n (e ∷ es) = cond (e.number == n) es (e ∷ without_number n es)
 
--- The open auction, if there is one, waits behind the others, as it was, with the cause for which it ended.
-abbrev pub closed : EndCause → Option OpenAuction → List EndedAuction → List EndedAuction
+-- The open auction, if there is one, waits behind the others, as it was, with the letter of the cause for which it ended.
+abbrev pub closed : ℕ → Option OpenAuction → List EndedAuction → List EndedAuction
 closed c None es = es
 closed c (Some a) es = es ++ (record { number = a.number; values = a.values; cause = c }) ∷ []
 
@@ -79,6 +78,6 @@ module _ {P Q : Type 0} where
   abbrev pub with_waiting : List EndedAuction → RoomState P Q → RoomState P Q
   with_waiting es s = record { number = s.number; time = s.time; halted = s.halted; position = s.position; source = s.source; current = s.current; waiting = es; opened = s.opened }
 
-  -- The open auction, if there is one, ends for this cause and waits to be collected.
-  abbrev pub ended : EndCause → RoomState P Q → RoomState P Q
+  -- The open auction, if there is one, ends for the cause of this letter and waits to be collected.
+  abbrev pub ended : ℕ → RoomState P Q → RoomState P Q
   ended c s = record { number = s.number; time = s.time; halted = s.halted; position = s.position; source = s.source; current = None; waiting = closed c s.current s.waiting; opened = s.opened }

@@ -1,19 +1,17 @@
 -- Ticks, and the causes for which one ends the open auction.
 use Rattle.std.specs.Prelude.{ℕ, Bool, false, cond, List, ℤ, Some, None, Ok, Err, Option, Result, int_lt}
+use Rattle.std.specs.Str.{byte}
 use Rattle.market.specs.declared.quote.Quote.{Quote}
 use Rattle.market.specs.declared.range.TurnedQuote.{TurnedQuote}
 use Rattle.market.specs.Range.{turned_quote}
-use Rattle.allocation.specs.declared.cause.EndCause.{EndCause}
-use Rattle.allocation.specs.declared.cause.EndCause.TheVariants.{FloorAboveInitiating, FloorAboveResponse, FloorAboveStop, ContraBelowGuarantee}
 use Rattle.allocation.specs.declared.order.GuaranteeKind.{GuaranteeKind}
 use Rattle.allocation.specs.declared.order.GuaranteeKind.TheVariants.{SingleStop, AutoMatchLimit}
 use Rattle.allocation.specs.declared.response.Response.{Response}
 use Rattle.allocation.specs.Auction.{AuctionValues, with_floor}
 use Rattle.allocation.specs.Table.{any_below}
-use Rattle.room.specs.declared.refusal.Refusal.{Refusal}
-use Rattle.room.specs.declared.refusal.Refusal.TheVariants.{MarketFault}
 use Rattle.room.specs.Checks.{time_checks}
 use Rattle.room.specs.Clock.{timed}
+use Rattle.room.specs.Refusals.{RefusalTold, by_fault}
 use Rattle.room.specs.State.{OpenAuction, RoomState, at_position, with_current, ended}
 use Rattle.room.specs.World.{World}
 
@@ -37,18 +35,18 @@ abbrev pub above_stop : Option ℤ → GuaranteeKind → ℤ → Bool
 above_stop floor SingleStop price = shown_above floor price
 above_stop floor AutoMatchLimit price = false
 
--- The cause where the test holds, and otherwise what the further tests say.
-abbrev pub ends_for : Bool → EndCause → Option EndCause → Option EndCause
+-- The cause of this letter where the test holds, and otherwise what the further tests say.
+abbrev pub ends_for : Bool → ℕ → Option ℕ → Option ℕ
 ends_for test c further = cond test (Some c) further
 
 -- The first of these that holds ends the auction: B, the new floor above the initiating price; C, above a standing
 -- response; D, single stop and above the stop; F, the new contra price below the guarantee.
-abbrev pub tick_cause : AuctionValues → TurnedQuote → Option EndCause
+abbrev pub tick_cause : AuctionValues → TurnedQuote → Option ℕ
 tick_cause v q =
-    ends_for (shown_above q.floor v.initiating) FloorAboveInitiating
-    (ends_for (above_response q.floor v.stood) FloorAboveResponse
-    (ends_for (above_stop q.floor v.order.guarantee.kind v.order.guarantee.price) FloorAboveStop
-    (ends_for (shown_below q.contra v.order.guarantee.price) ContraBelowGuarantee None)))
+    ends_for (shown_above q.floor v.initiating) (byte "B")
+    (ends_for (above_response q.floor v.stood) (byte "C")
+    (ends_for (above_stop q.floor v.order.guarantee.kind v.order.guarantee.price) (byte "D")
+    (ends_for (shown_below q.contra v.order.guarantee.price) (byte "F") None)))
 
 -- A shown floor takes the place of the floor; a side with no price changes nothing.
 abbrev pub floor_now : Option ℤ → ℤ → ℤ
@@ -61,7 +59,7 @@ at_floor f a = record { number = a.number; deadline = a.deadline; values = with_
 
 module _ {P Q : Type 0} where
   -- The auction that a tick ends keeps the floor from before the tick; with no end, the new floor counts.
-  abbrev pub ticked_for : Option EndCause → TurnedQuote → RoomState P Q → OpenAuction → RoomState P Q
+  abbrev pub ticked_for : Option ℕ → TurnedQuote → RoomState P Q → OpenAuction → RoomState P Q
   ticked_for (Some c) q s a = ended c s
   ticked_for None q s a = with_current (at_floor (floor_now q.floor a.values.floor) a) s
 
@@ -73,12 +71,12 @@ module _ {P Q : Type 0} where
 module _ {P T F Q : Type 0} (w : World P T F Q) where
   -- After an accepted tick the market has its next position, and the open auction takes notice of what it shows. A
   -- refused tick changes nothing, and its refusal holds the market's fault.
-  abbrev pub ticking_by : Result (Unit {0}) F → RoomState P Q → T → RoomState P Q × Result (Unit {0}) (Refusal F)
+  abbrev pub ticking_by : Result (Unit {0}) F → RoomState P Q → T → RoomState P Q × Result (Unit {0}) (RefusalTold F)
   ticking_by (Ok _) s t = let p = w.market.next s.position t in (ticked s.current (w.market.shows p) (at_position p s), Ok tt)
-  ticking_by (Err f) s t = (s, Err (MarketFault f))
+  ticking_by (Err f) s t = (s, Err (by_fault f))
 
-  abbrev pub ticking : RoomState P Q → T → RoomState P Q × Result (Unit {0}) (Refusal F)
+  abbrev pub ticking : RoomState P Q → T → RoomState P Q × Result (Unit {0}) (RefusalTold F)
   ticking s t = ticking_by (w.market.answer s.position t) s t
 
-  abbrev pub tick_call : RoomState P Q → ℕ → T → RoomState P Q × Result (Unit {0}) (Refusal F)
+  abbrev pub tick_call : RoomState P Q → ℕ → T → RoomState P Q × Result (Unit {0}) (RefusalTold F)
   tick_call s time t = timed (time_checks time) s time (λ u. ticking u t)

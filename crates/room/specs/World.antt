@@ -4,7 +4,7 @@ use Rattle.market.specs.Meaning.{Meaning, RefusedLeaves}
 use Rattle.interval.specs.Source.{SourceMeaning, WithinLimits}
 use Rattle.allocation.specs.declared.response.Key.{Key}
 
--- A market of positions P, ticks T and faults F; a source of positions Q; and which of two responses is ahead.
+-- A market of positions P, ticks T and faults told as F; a source of positions Q; and which of two responses is ahead.
 pub record World (P T F Q : Type 0) : Type 0 where
   pub market : Meaning P T F
   pub source : SourceMeaning Q

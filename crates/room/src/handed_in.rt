@@ -1,9 +1,10 @@
 // What members hand in, with every part within its limits. In each of these the parts are checked in the order in which
 // they are listed, and the first that fails is told.
 ghost use Rattle.std.specs.Prelude.{◌≡◌, Ok, None as Nothing};
+ghost use Rattle.std.specs.Result.{result_map_both};
 ghost use Rattle.room.specs.HandedIn.{opening_given, id_given, response_given, change_given, withdrawal_given};
 ghost use Rattle.room.specs.Checks.{open_checks, respond_checks, change_checks, withdraw_checks, member_checked, own_checked};
-ghost use Rattle.room.specs.Refusals.{seen_as, unless};
+ghost use Rattle.room.specs.Refusals.{refusal_number, unless, HoldsNoFault};
 
 use crate::limits::{Member, OwnNumber, Price, Size, Time};
 use crate::refusal::Refusal;
@@ -67,7 +68,8 @@ pub(crate) struct CheckedWithdrawal {
 
 impl OpeningRequest {
     pub(crate) fn checked<F>(&self) -> Result<CheckedOpening, Refusal<F>>
-        ensures { seen_as result opening_given ≡ unless (open_checks self.now) (Ok self.now) }
+        ensures answer { result_map_both opening_given refusal_number result ≡ unless (open_checks self.now) (Ok self.now) }
+        ensures no_fault { HoldsNoFault result }
     {
         Ok(CheckedOpening {
             time: Time::checked(self.time)?,
@@ -87,7 +89,8 @@ impl OpeningRequest {
 
 impl CheckedId {
     fn checked<F>(member: u8, own: u8) -> Result<CheckedId, Refusal<F>>
-        ensures { seen_as result id_given ≡ unless (member_checked member (own_checked own Nothing)) (Ok (record { member = member; own = own })) }
+        ensures answer { result_map_both id_given refusal_number result ≡ unless (member_checked member (own_checked own Nothing)) (Ok (record { member = member; own = own })) }
+        ensures no_fault { HoldsNoFault result }
     {
         Ok(CheckedId {
             member: Member::checked(member)?,
@@ -110,7 +113,8 @@ impl CheckedId {
 // members hand in, and sharing the checks would first copy five fields from one into the other.
 impl ResponseRequest {
     pub(crate) fn checked<F>(&self) -> Result<CheckedResponse, Refusal<F>>
-        ensures { seen_as result response_given ≡ unless (respond_checks self.now) (Ok self.now) }
+        ensures answer { result_map_both response_given refusal_number result ≡ unless (respond_checks self.now) (Ok self.now) }
+        ensures no_fault { HoldsNoFault result }
     {
         Ok(CheckedResponse {
             time: Time::checked(self.time)?,
@@ -126,7 +130,8 @@ impl ResponseRequest {
 
 impl ChangeRequest {
     pub(crate) fn checked<F>(&self) -> Result<CheckedChange, Refusal<F>>
-        ensures { seen_as result change_given ≡ unless (change_checks self.now) (Ok self.now) }
+        ensures answer { result_map_both change_given refusal_number result ≡ unless (change_checks self.now) (Ok self.now) }
+        ensures no_fault { HoldsNoFault result }
     {
         Ok(CheckedChange {
             time: Time::checked(self.time)?,
@@ -139,7 +144,8 @@ impl ChangeRequest {
 
 impl WithdrawRequest {
     pub(crate) fn checked<F>(&self) -> Result<CheckedWithdrawal, Refusal<F>>
-        ensures { seen_as result withdrawal_given ≡ unless (withdraw_checks self.now) (Ok self.now) }
+        ensures answer { result_map_both withdrawal_given refusal_number result ≡ unless (withdraw_checks self.now) (Ok self.now) }
+        ensures no_fault { HoldsNoFault result }
     {
         Ok(CheckedWithdrawal {
             time: Time::checked(self.time)?,

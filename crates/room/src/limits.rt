@@ -1,11 +1,12 @@
 // What is handed in, once it is known to be within its limits: each of these is made by its check alone. They are no one type
 // with bounds as const parameters: their numbers are of four types (u64, i64, u32, u8), and each has a refusal of its own.
 ghost use Rattle.std.specs.Prelude.{◌≡◌, ◌-◌, ◌<◌, ◌≤◌, true, Ok, Some, None as Nothing};
+ghost use Rattle.std.specs.Result.{result_map_both};
 ghost use Rattle.allocation.specs.AuctionInvariant.{from_to};
 ghost use Rattle.market.specs.Prices.{in_limits};
 ghost use Rattle.market.specs.Turned.{turned};
 ghost use Rattle.room.specs.Checks.{time_checked, price_checked, size_checked, member_checked, own_checked};
-ghost use Rattle.room.specs.Refusals.{seen_as, unless};
+ghost use Rattle.room.specs.Refusals.{refusal_number, unless, HoldsNoFault};
 
 use crate::refusal::Refusal;
 use allocation::limits::{is_member, is_own_number, is_size};
@@ -46,7 +47,8 @@ pub(crate) struct OwnNumber {
 
 impl Time {
     pub(crate) fn checked<F>(milliseconds: u64) -> Result<Time, Refusal<F>>
-        ensures { seen_as result (λ x. x.milliseconds) ≡ unless (time_checked milliseconds Nothing) (Ok milliseconds) }
+        ensures answer { result_map_both (λ x. x.milliseconds) refusal_number result ≡ unless (time_checked milliseconds Nothing) (Ok milliseconds) }
+        ensures no_fault { HoldsNoFault result }
     {
         if milliseconds > LAST_TIME {
             return Err(Refusal::TimeOverLimit);
@@ -57,7 +59,8 @@ impl Time {
 
 impl Price {
     pub(crate) fn checked<F>(cents: i64) -> Result<Price, Refusal<F>>
-        ensures { seen_as result (λ x. x.cents) ≡ unless (price_checked cents Nothing) (Ok cents) }
+        ensures answer { result_map_both (λ x. x.cents) refusal_number result ≡ unless (price_checked cents Nothing) (Ok cents) }
+        ensures no_fault { HoldsNoFault result }
     {
         if !in_limits(cents) {
             return Err(Refusal::PriceOutsideLimits);
@@ -75,7 +78,8 @@ impl Price {
 
 impl Size {
     pub(crate) fn checked<F>(contracts: u32) -> Result<Size, Refusal<F>>
-        ensures { seen_as result (λ x. x.contracts) ≡ unless (size_checked contracts Nothing) (Ok contracts) }
+        ensures answer { result_map_both (λ x. x.contracts) refusal_number result ≡ unless (size_checked contracts Nothing) (Ok contracts) }
+        ensures no_fault { HoldsNoFault result }
     {
         if !is_size(contracts) {
             return Err(Refusal::SizeOutsideLimits);
@@ -86,7 +90,8 @@ impl Size {
 
 impl Member {
     pub(crate) fn checked<F>(number: u8) -> Result<Member, Refusal<F>>
-        ensures { seen_as result (λ x. x.number) ≡ unless (member_checked number Nothing) (Ok number) }
+        ensures answer { result_map_both (λ x. x.number) refusal_number result ≡ unless (member_checked number Nothing) (Ok number) }
+        ensures no_fault { HoldsNoFault result }
     {
         if !is_member(number) {
             return Err(Refusal::MemberOutsideLimits);
@@ -105,7 +110,8 @@ impl Member {
 
 impl OwnNumber {
     pub(crate) fn checked<F>(number: u8) -> Result<OwnNumber, Refusal<F>>
-        ensures { seen_as result (λ x. x.number) ≡ unless (own_checked number Nothing) (Ok number) }
+        ensures answer { result_map_both (λ x. x.number) refusal_number result ≡ unless (own_checked number Nothing) (Ok number) }
+        ensures no_fault { HoldsNoFault result }
     {
         if !is_own_number(number) {
             return Err(Refusal::OwnNumberOutsideLimits);

@@ -1,8 +1,10 @@
 // What the open auction does with responses, changes and withdrawals that have passed their checks.
 ghost use Rattle.std.specs.Prelude.{◌≡◌, int_lt};
 ghost use Rattle.std.specs.Result.{result_err};
+ghost use Rattle.market.specs.Meaning.{told_by};
 ghost use Rattle.allocation.specs.Table.{own_response};
 ghost use Rattle.room.specs.HandedIn.{response_given, change_given};
+ghost use Rattle.room.specs.Refusals.{refusal_number, HoldsNoFault};
 ghost use Rattle.room.specs.Responses.{turned_in, standing_now, response_refusal, change_refusal, plain_below_floor};
 ghost use Rattle.room.specs.Rooms.{open_values};
 ghost use Rattle.room.specs.State.{used_by};
@@ -38,7 +40,8 @@ impl CurrentAuction {
 
     // The response of this member with this own number, if it stands, or refusal 25.
     pub(crate) fn standing<F>(&self, of: CheckedId) -> Result<Response, Refusal<F>>
-        ensures { result ≡ standing_now (own_response of.member.number of.own.number (open_values self.now).values.stood) }
+        ensures answer { told_by refusal_number result ≡ standing_now (own_response of.member.number of.own.number (open_values self.now).values.stood) }
+        ensures no_fault { HoldsNoFault result }
     {
         // No `ok_or`, which would have to drop a refusal, and so a market's fault.
         self.auction
@@ -48,7 +51,8 @@ impl CurrentAuction {
 
     // The first refusal that a response earns by the state: 22, 23, 24, 27.
     pub(crate) fn check_response<F>(&self, response: &CheckedResponse) -> Result<(), Refusal<F>>
-        ensures { result_err result ≡ response_refusal (open_values self.now) (response_given response.now) }
+        ensures answer { result_err (told_by refusal_number result) ≡ response_refusal (open_values self.now) (response_given response.now) }
+        ensures no_fault { HoldsNoFault result }
     {
         if response.side == self.auction.order().side {
             return Err(Refusal::SameSide);
@@ -71,7 +75,8 @@ impl CurrentAuction {
         standing: &Response,
         change: &CheckedChange,
     ) -> Result<(), Refusal<F>>
-        ensures { result_err result ≡ change_refusal (open_values self.now) standing.now (change_given change.now) }
+        ensures answer { result_err (told_by refusal_number result) ≡ change_refusal (open_values self.now) standing.now (change_given change.now) }
+        ensures no_fault { HoldsNoFault result }
     {
         if standing.kind == Kind::Plain {
             return Err(Refusal::ResponseIsPlain);

@@ -1,6 +1,8 @@
 // What the open auction makes of what the market now shows, and what may be seen of it.
 ghost use Rattle.std.specs.Prelude.{◌≡◌, true, None as Nothing};
+ghost use Rattle.std.specs.Option.{option_map};
 ghost use Rattle.market.specs.Prices.{showable};
+ghost use Rattle.allocation.specs.Causes.{cause_letter};
 ghost use Rattle.room.specs.Looks.{auction_view};
 ghost use Rattle.room.specs.Rooms.{open_values};
 ghost use Rattle.room.specs.Ticks.{shown_above, above_response, above_stop, tick_cause, floor_now, at_floor};
@@ -35,7 +37,7 @@ impl CurrentAuction {
 
     // The first cause that what is now shown brings: B, C, D, F.
     pub(crate) fn tick_cause(&self, shown: &TurnedQuote) -> Option<EndCause>
-        ensures { result ≡ tick_cause (open_values self.now).values shown.now }
+        ensures { option_map cause_letter result ≡ tick_cause (open_values self.now).values shown.now }
     {
         if is_above(shown.floor, self.auction.initiating()) {
             return Some(EndCause::FloorAboveInitiating);

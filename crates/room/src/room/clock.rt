@@ -1,6 +1,7 @@
 // The clock step, with which every timed call begins, and the end of the open auction.
 ghost use Rattle.std.specs.Prelude.{◌≡◌};
 ghost use Rattle.std.specs.Option.{option_map};
+ghost use Rattle.allocation.specs.Causes.{cause_letter};
 ghost use Rattle.room.specs.Clock.{due, clocked};
 ghost use Rattle.room.specs.Rooms.{open_values, state_of};
 ghost use Rattle.room.specs.State.{ended};
@@ -16,7 +17,7 @@ use market::market::Market;
 impl<M: Market, R: Ranking, S: IntervalSource> Room<M, R, S> {
     // The open auction, if there is one, ends for this cause and waits to be collected.
     pub(crate) fn end(&mut self, cause: EndCause)
-        ensures state { state_of M.Market.position S.IntervalSource.position self.new ≡ ended cause (state_of M.Market.position S.IntervalSource.position self.old) }
+        ensures state { state_of M.Market.position S.IntervalSource.position self.new ≡ ended (cause_letter cause) (state_of M.Market.position S.IntervalSource.position self.old) }
         ensures ranking { self.new.ranking ≡ self.old.ranking }
     {
         if let Some(open) = self.current.take() {

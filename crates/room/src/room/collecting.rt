@@ -2,7 +2,8 @@
 ghost use Rattle.std.specs.Prelude.{◌≡◌, false, ◌++◌, length, drop};
 ghost use Rattle.std.specs.Option.{option_map};
 ghost use Rattle.room.specs.Collecting.{collectable, collect_call, collect_rows};
-ghost use Rattle.room.specs.Rooms.{claim_numbers, collected_answer, ended_values, listed, open_values, state_of, waiting_result, world_of};
+ghost use Rattle.room.specs.Refusals.{HoldsNoFault};
+ghost use Rattle.room.specs.Rooms.{claim_numbers, collected_answer, collection_answer, ended_values, listed, open_values, state_of, waiting_result, world_of};
 ghost use Rattle.room.specs.State.{is_number, numbered, without_number};
 
 use super::Room;
@@ -34,7 +35,8 @@ impl<M: Market, R: Ranking, S: IntervalSource> Room<M, R, S> {
 
     // The auction of a claim, or the first refusal.
     fn collectable(&self, claim: &Claim, rows: usize) -> Result<WaitingAuction, Refusal<M::Fault>>
-        ensures { waiting_result result ≡ collectable (state_of M.Market.position S.IntervalSource.position self.now) (claim_numbers claim.now) rows }
+        ensures answer { waiting_result result ≡ collectable (state_of M.Market.position S.IntervalSource.position self.now) (claim_numbers claim.now) rows }
+        ensures no_fault { HoldsNoFault result }
     {
         if rows < LEAST_ROWS {
             return Err(Refusal::ListTooShort);
@@ -70,7 +72,7 @@ impl<M: Market, R: Ranking, S: IntervalSource> Room<M, R, S> {
         rows: &mut [FillRow],
     ) -> Result<Collection, (Refusal<M::Fault>, Claim)>
         ensures state { state_of M.Market.position S.IntervalSource.position self.new ≡ (collect_call (world_of M.Market.meaning S.IntervalSource.meaning (R.Ranking.ahead self.old.ranking)) (state_of M.Market.position S.IntervalSource.position self.old) (claim_numbers claim) (length rows.old)).0 }
-        ensures answer { result ≡ collected_answer claim (collect_call (world_of M.Market.meaning S.IntervalSource.meaning (R.Ranking.ahead self.old.ranking)) (state_of M.Market.position S.IntervalSource.position self.old) (claim_numbers claim) (length rows.old)).1 }
+        ensures answer { collection_answer M.Market.told result ≡ collected_answer claim (collect_call (world_of M.Market.meaning S.IntervalSource.meaning (R.Ranking.ahead self.old.ranking)) (state_of M.Market.position S.IntervalSource.position self.old) (claim_numbers claim) (length rows.old)).1 }
         ensures rows { rows.new ≡ collect_rows (world_of M.Market.meaning S.IntervalSource.meaning (R.Ranking.ahead self.old.ranking)) (state_of M.Market.position S.IntervalSource.position self.old) (claim_numbers claim) (length rows.old) ++ drop (length (collect_rows (world_of M.Market.meaning S.IntervalSource.meaning (R.Ranking.ahead self.old.ranking)) (state_of M.Market.position S.IntervalSource.position self.old) (claim_numbers claim) (length rows.old))) rows.old }
         ensures ranking { self.new.ranking ≡ self.old.ranking }
     {

@@ -1,12 +1,12 @@
 // Opening an auction.
-ghost use Rattle.std.specs.Prelude.{◌≡◌, false, int_lt, nat_le};
+ghost use Rattle.std.specs.Prelude.{◌≡◌, false, None as Nothing, int_lt, nat_le};
 ghost use Rattle.allocation.specs.Auction.{auction_values};
 ghost use Rattle.market.specs.Range.{range_prices};
 ghost use Rattle.market.specs.Refusals.{range_number};
 ghost use Rattle.market.specs.Turned.{turned};
 ghost use Rattle.room.specs.HandedIn.{order_given};
 ghost use Rattle.room.specs.Openings.{stored_order, new_values, any_waits, opening_range, opened_with, open_call};
-ghost use Rattle.room.specs.Refusals.{refusal};
+ghost use Rattle.room.specs.Refusals.{refusal_number, fault_held, HoldsNoFault};
 ghost use Rattle.room.specs.Rooms.{claim_answer, listed, range_result, state_of, world_of};
 
 use super::Room;
@@ -32,7 +32,8 @@ const MOST_OPENED: u32 = 1_000_000;
 // The room's refusal of the same number: 14 or 15, and 2 for a limit that was not checked before. An impl of
 // `From<RangeRefusal>` would overlap the one that takes any market's fault.
 fn range_refusal<F>(told: RangeRefusal) -> Refusal<F>
-    ensures { result ≡ refusal (range_number told) }
+    ensures number { refusal_number result ≡ range_number told }
+    ensures no_fault { fault_held result ≡ Nothing }
 {
     match told {
         RangeRefusal::PriceOutsideLimits => Refusal::PriceOutsideLimits,
@@ -77,7 +78,8 @@ fn new_auction(order: &CheckedOrder, range: &PermittedRange) -> Auction
 impl<M: Market, R: Ranking, S: IntervalSource> Room<M, R, S> {
     // The range of an order that may open, or the first refusal.
     fn opening_range(&self, order: &CheckedOrder) -> Result<PermittedRange, Refusal<M::Fault>>
-        ensures { range_result result ≡ opening_range (world_of M.Market.meaning S.IntervalSource.meaning (R.Ranking.ahead self.now.ranking)) (state_of M.Market.position S.IntervalSource.position self.now) (order_given order.now) }
+        ensures answer { range_result result ≡ opening_range (world_of M.Market.meaning S.IntervalSource.meaning (R.Ranking.ahead self.now.ranking)) (state_of M.Market.position S.IntervalSource.position self.now) (order_given order.now) }
+        ensures no_fault { HoldsNoFault result }
     {
         if self.halted {
             return Err(Refusal::RoomHalted);
@@ -119,7 +121,7 @@ impl<M: Market, R: Ranking, S: IntervalSource> Room<M, R, S> {
     // Opens an auction of an order with its guarantee. The claim collects it when it has ended.
     pub fn open(&mut self, request: OpeningRequest) -> Result<Claim, Refusal<M::Fault>>
         ensures state { state_of M.Market.position S.IntervalSource.position self.new ≡ (open_call (world_of M.Market.meaning S.IntervalSource.meaning (R.Ranking.ahead self.old.ranking)) (state_of M.Market.position S.IntervalSource.position self.old) request).0 }
-        ensures answer { claim_answer result ≡ (open_call (world_of M.Market.meaning S.IntervalSource.meaning (R.Ranking.ahead self.old.ranking)) (state_of M.Market.position S.IntervalSource.position self.old) request).1 }
+        ensures answer { claim_answer M.Market.told result ≡ (open_call (world_of M.Market.meaning S.IntervalSource.meaning (R.Ranking.ahead self.old.ranking)) (state_of M.Market.position S.IntervalSource.position self.old) request).1 }
         ensures ranking { self.new.ranking ≡ self.old.ranking }
     {
         let opening = request.checked()?;

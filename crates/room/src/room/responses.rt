@@ -1,5 +1,7 @@
 // Responding to the open auction, changing a response and withdrawing one.
 ghost use Rattle.std.specs.Prelude.{◌≡◌};
+ghost use Rattle.market.specs.Meaning.{told_by};
+ghost use Rattle.room.specs.Refusals.{refusal_told};
 ghost use Rattle.room.specs.Responses.{respond_call, change_call, withdraw_call};
 ghost use Rattle.room.specs.Rooms.{state_of};
 
@@ -16,8 +18,8 @@ use market::market::Market;
 impl<M: Market, R: Ranking, S: IntervalSource> Room<M, R, S> {
     // Stores a response; a plain one priced below the floor then ends the auction.
     pub fn respond(&mut self, request: ResponseRequest) -> Result<StoredTerms, Refusal<M::Fault>>
-        ensures state { state_of M.Market.position S.IntervalSource.position self.new ≡ (respond_call {F = M.Fault} (state_of M.Market.position S.IntervalSource.position self.old) request).0 }
-        ensures answer { result ≡ (respond_call (state_of M.Market.position S.IntervalSource.position self.old) request).1 }
+        ensures state { state_of M.Market.position S.IntervalSource.position self.new ≡ (respond_call {F = M.Market.Told} (state_of M.Market.position S.IntervalSource.position self.old) request).0 }
+        ensures answer { told_by (refusal_told M.Market.told) result ≡ (respond_call (state_of M.Market.position S.IntervalSource.position self.old) request).1 }
         ensures ranking { self.new.ranking ≡ self.old.ranking }
     {
         let response = request.checked()?;
@@ -37,8 +39,8 @@ impl<M: Market, R: Ranking, S: IntervalSource> Room<M, R, S> {
 
     // Gives a sealed response that stands a new price and size.
     pub fn change(&mut self, request: ChangeRequest) -> Result<StoredTerms, Refusal<M::Fault>>
-        ensures state { state_of M.Market.position S.IntervalSource.position self.new ≡ (change_call {F = M.Fault} (state_of M.Market.position S.IntervalSource.position self.old) request).0 }
-        ensures answer { result ≡ (change_call (state_of M.Market.position S.IntervalSource.position self.old) request).1 }
+        ensures state { state_of M.Market.position S.IntervalSource.position self.new ≡ (change_call {F = M.Market.Told} (state_of M.Market.position S.IntervalSource.position self.old) request).0 }
+        ensures answer { told_by (refusal_told M.Market.told) result ≡ (change_call (state_of M.Market.position S.IntervalSource.position self.old) request).1 }
         ensures ranking { self.new.ranking ≡ self.old.ranking }
     {
         let change = request.checked()?;
@@ -54,8 +56,8 @@ impl<M: Market, R: Ranking, S: IntervalSource> Room<M, R, S> {
 
     // Removes a sealed response that stands.
     pub fn withdraw(&mut self, request: WithdrawRequest) -> Result<StoredTerms, Refusal<M::Fault>>
-        ensures state { state_of M.Market.position S.IntervalSource.position self.new ≡ (withdraw_call {F = M.Fault} (state_of M.Market.position S.IntervalSource.position self.old) request).0 }
-        ensures answer { result ≡ (withdraw_call (state_of M.Market.position S.IntervalSource.position self.old) request).1 }
+        ensures state { state_of M.Market.position S.IntervalSource.position self.new ≡ (withdraw_call {F = M.Market.Told} (state_of M.Market.position S.IntervalSource.position self.old) request).0 }
+        ensures answer { told_by (refusal_told M.Market.told) result ≡ (withdraw_call (state_of M.Market.position S.IntervalSource.position self.old) request).1 }
         ensures ranking { self.new.ranking ≡ self.old.ranking }
     {
         let withdrawal = request.checked()?;

@@ -1,6 +1,8 @@
 // Ticks: the market takes them, and the open auction takes notice of what is then shown.
 ghost use Rattle.std.specs.Prelude.{◌≡◌};
 ghost use Rattle.std.specs.Option.{option_map};
+ghost use Rattle.market.specs.Meaning.{told_by};
+ghost use Rattle.room.specs.Refusals.{refusal_told};
 ghost use Rattle.room.specs.Rooms.{state_of, open_values, world_of};
 ghost use Rattle.room.specs.Ticks.{ticked, tick_call};
 
@@ -36,7 +38,7 @@ where
     // Hands a tick to the market. The market's fault is the refusal, whole.
     pub fn tick(&mut self, time: u64, tick: M::Tick) -> Result<(), Refusal<M::Fault>>
         ensures state { state_of M.Market.position S.IntervalSource.position self.new ≡ (tick_call (world_of M.Market.meaning S.IntervalSource.meaning (R.Ranking.ahead self.old.ranking)) (state_of M.Market.position S.IntervalSource.position self.old) time tick).0 }
-        ensures answer { result ≡ (tick_call (world_of M.Market.meaning S.IntervalSource.meaning (R.Ranking.ahead self.old.ranking)) (state_of M.Market.position S.IntervalSource.position self.old) time tick).1 }
+        ensures answer { told_by (refusal_told M.Market.told) result ≡ (tick_call (world_of M.Market.meaning S.IntervalSource.meaning (R.Ranking.ahead self.old.ranking)) (state_of M.Market.position S.IntervalSource.position self.old) time tick).1 }
         ensures ranking { self.new.ranking ≡ self.old.ranking }
     {
         let time = Time::checked(time)?;

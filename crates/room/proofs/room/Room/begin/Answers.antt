@@ -1,7 +1,7 @@
 -- None waits before the opening, so only the auction that it ends can wait afterwards, and the second place stays free.
 use Rattle.std.proofs.Common.{is_some, ap}
 use Rattle.std.specs.Option.{option_map}
-use Rattle.allocation.specs.declared.cause.EndCause.TheVariants.{NextAuction}
+use Rattle.std.specs.Str.{byte}
 use Rattle.room.specs.Rooms.{listed, open_values}
 use Rattle.room.specs.State.{RoomState}
 use Rattle.room.proofs.Listed.{second_free}
@@ -12,4 +12,4 @@ invariant_of-self-clause-places g c =
     let before = c.args.self.now in
     let after = c.end.new.self in
     let waits = ap (λ (z : RoomState g.M.Market.Position g.S.IntervalSource.Position). z.waiting) c.end.ensures.state in
-    second_free NextAuction (option_map open_values before.current) (listed before.first before.second) (is_some after.current) after.first after.second c.requires.none waits after.places
+    second_free (byte "A") (option_map open_values before.current) (listed before.first before.second) (is_some after.current) after.first after.second c.requires.none waits after.places
