@@ -43,7 +43,7 @@ pub fn verdict(right: bool) -> &'static str {
     }
 }
 
-fn print_closed(rt: &HostRuntime, closed: &Option<ClosedAuction>) -> io::Result<()> {
+pub fn print_closed(rt: &HostRuntime, closed: &Option<ClosedAuction>) -> io::Result<()> {
     let Some(auction) = closed else {
         return Ok(());
     };

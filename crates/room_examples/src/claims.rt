@@ -19,7 +19,7 @@ use room::refusal::Refusal;
 use room::room::Room;
 use std::io;
 
-type TouchRoom = Room<Touch, EarlierArrival, FixedInterval>;
+pub type TouchRoom = Room<Touch, EarlierArrival, FixedInterval>;
 
 // A room in which an auction is open, its first, and the claim to it.
 pub struct Opened {

@@ -1,9 +1,11 @@
-// Rooms in code, at bounds that no script reaches, with claims of other rooms, and over whole runs; each answer is held to what
-// the rules give.
+// Rooms in code, at bounds that no script reaches, with claims of other rooms, over whole runs, and taken apart; each answer is
+// held to what the rules give.
 #![tactic(auto)]
 
 mod answer;
+mod apart;
 mod claims;
+mod counting;
 mod made;
 mod openings;
 mod runs;
@@ -15,5 +17,6 @@ fn main(rt: HostRuntime) -> io::Result<()> {
     openings::work(&rt)?;
     used::work(&rt)?;
     claims::work(&rt)?;
-    runs::work(&rt)
+    runs::work(&rt)?;
+    apart::work(&rt)
 }

@@ -1,0 +1,2 @@
+-- The interval source of these examples.
+pub mod Counting

@@ -1,0 +1,127 @@
+// Rooms that are taken apart when they hold no auction any more.
+ghost use Rattle.std.specs.Prelude.{◌≡◌, [], ◌∷◌};
+ghost use Rattle.room.specs.Rooms.{claim_numbers};
+ghost use Rattle.session.specs.Claims.{claims_of_room};
+
+use crate::answer::{print_closed, verdict};
+use crate::claims::{Opened, TouchRoom, open_in, settle, show_collected};
+use crate::counting::CountingSource;
+use crate::made::{ROOM, TouchCall, opening, quoting};
+use allocation::rankings::EarlierArrival;
+use interval::fixed::FixedInterval;
+use market::touch::Touch;
+use room::claim::Claim;
+use room::parts::RoomParts;
+use session::desk::day::{Day, DayDone, run_day};
+use session::desk::{Closed, ClosedAuction, Desk};
+use std::alloc::{AllocError, Global};
+use std::io;
+
+// A quote and three openings: the second ends the auction of the first, and the third is refused, since that one waits.
+fn calls(heap: Global) -> Result<Vec<TouchCall>, AllocError> {
+    let mut calls = Vec::with_capacity(heap, 4)?;
+    calls.push_reserved(quoting());
+    calls.push_reserved(opening());
+    calls.push_reserved(opening());
+    calls.push_reserved(opening());
+    Ok(calls)
+}
+
+// What is read when a day is done: the auctions that its room still held, and how many intervals its source has drawn.
+#[derive(Drop)]
+struct DayRead {
+    first: Option<ClosedAuction>,
+    second: Option<ClosedAuction>,
+    drawn: u32,
+}
+
+// Closes a desk, and takes its room apart.
+fn read_day(desk: Desk<Touch, EarlierArrival, CountingSource>) -> DayRead {
+    let Closed {
+        room,
+        first,
+        second,
+    } = desk.close();
+    let RoomParts {
+        market: _,
+        ranking: _,
+        source,
+    } = room.into_parts().unwrap();
+    DayRead {
+        first,
+        second,
+        drawn: source.into_drawn(),
+    }
+}
+
+// Runs a day over a source that counts its draws. None where memory is wanting.
+fn counted_day(heap: Global, calls: Vec<TouchCall>) -> Option<DayRead> {
+    let day = Day {
+        number: ROOM,
+        market: Touch::new(),
+        ranking: EarlierArrival,
+        source: CountingSource::new(),
+        calls,
+    };
+    match run_day(heap, day) {
+        Ok(DayDone { answers: _, desk }) => Some(read_day(desk)),
+        Err(
+            Day {
+                number: _,
+                market: _,
+                ranking: _,
+                source,
+                calls: _,
+            },
+        ) => {
+            let _none_drawn = source.into_drawn();
+            None
+        }
+    }
+}
+
+fn show_day(rt: &HostRuntime) -> io::Result<()> {
+    let heap = rt.alloc();
+    let Some(read) = counted_day(heap, calls(heap)?) else {
+        return println!(rt; "  memory was wanting{}", verdict(false));
+    };
+    print_closed(rt, &read.first)?;
+    print_closed(rt, &read.second)?;
+    println!(rt;
+        "  intervals drawn: {}{}",
+        read.drawn,
+        verdict(read.drawn == 2)
+    )
+}
+
+// A room that holds an auction cannot be taken apart, and comes back.
+fn ask_back(room: TouchRoom, claim: &Claim) -> TouchRoom
+    requires { claims_of_room room ≡ claim_numbers claim.now ∷ [] }
+    ensures { result ≡ room }
+{
+    room.into_parts().unwrap_err()
+}
+
+// Asks for a room's parts while its auction is open, and once it is collected.
+fn ask_twice(rt: &HostRuntime, source: FixedInterval) -> io::Result<()> {
+    let Opened { room, claim } = open_in(ROOM, source);
+    let mut room = ask_back(room, &claim);
+    let told = settle(&mut room, claim);
+    show_collected(rt, told)?;
+    println!(rt;
+        "    then taken apart{}",
+        verdict(room.into_parts().is_ok())
+    )
+}
+
+pub fn work(rt: &HostRuntime) -> io::Result<()> {
+    println!(rt;
+        "A quote and three openings, over a source that counts its draws and is read at the end:"
+    )?;
+    show_day(rt)?;
+    let Ok(source) = FixedInterval::new(100) else {
+        return println!(rt; "no interval");
+    };
+    println!(rt; "A room that is asked for its parts while its auction is open, and comes back:")?;
+    ask_twice(rt, source)
+}
