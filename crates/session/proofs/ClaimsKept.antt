@@ -8,8 +8,6 @@ use Rattle.std.proofs.lemmas.Bool.{and_parts, eqb-true}
 use Rattle.market.specs.declared.quote.Quote.{Quote}
 use Rattle.market.specs.declared.range.TurnedQuote.{TurnedQuote}
 use Rattle.market.specs.Range.{turned_quote}
-use Rattle.allocation.specs.declared.cause.EndCause.{EndCause}
-use Rattle.allocation.specs.declared.cause.EndCause.TheVariants.{NextAuction, PlainBelowFloor, Halt as Halted, Deadline}
 use Rattle.room.specs.declared.answers.ClaimNumbers.{ClaimNumbers}
 use Rattle.room.specs.Clock.{due}
 use Rattle.room.specs.State.{OpenAuction, EndedAuction, RoomState, at_time, at_position, with_current, ended, closed, numbered, without_number, with_waiting, new_room}
@@ -23,12 +21,13 @@ use Rattle.session.specs.Runs.{Answer, Opened, Stored, Accepted, Looked, Collect
 use Rattle.session.specs.Sessions.{Session, session_of, session_after, session_end, is_made, claim_in, purse_left, purse_after, same_claim, holds, without_claim}
 use Rattle.session.specs.Claims.{number_of_open, auctions_held, claim_to, claims_to}
 use Rattle.session.proofs.Ending.Shapes.{Did, idle, opened, stored, ticks, halts, collected, OpenedHere, CollectedHere, did}
+use Rattle.std.specs.Str.{byte}
 
 abbrev numbers_of : List EndedAuction → List ℕ
 numbers_of es = map (λ (e : EndedAuction). e.number) es
 
 -- an auction that ends is held as before, behind those that wait
-closed_auctions : (c : EndCause) (o : Option OpenAuction) (es : List EndedAuction) → numbers_of (closed c o es) ≡ numbers_of es ++ number_of_open o
+closed_auctions : (c : ℕ) (o : Option OpenAuction) (es : List EndedAuction) → numbers_of (closed c o es) ≡ numbers_of es ++ number_of_open o
 closed_auctions c None es = sym (append-nil (numbers_of es))
 closed_auctions c (Some a) es = map-append (λ (e : EndedAuction). e.number) es (record { number = a.number; values = a.values; cause = c } ∷ [])
 
@@ -38,14 +37,14 @@ module _ {P Q : Type 0} where
     pub same_auctions : auctions_held v ≡ auctions_held s
     pub same_number : v.number ≡ s.number
 
-  ended_held : (c : EndCause) (s : RoomState P Q) → SameHeld s (ended c s)
+  ended_held : (c : ℕ) (s : RoomState P Q) → SameHeld s (ended c s)
   ended_held c s = record { same_auctions = append-nil (numbers_of (closed c s.current s.waiting)) ∙ closed_auctions c s.current s.waiting; same_number = refl }
 
-  due_held : (b : Bool) (s : RoomState P Q) → SameHeld s (cond b (ended Deadline s) s)
-  due_held true s = ended_held Deadline s
+  due_held : (b : Bool) (s : RoomState P Q) → SameHeld s (cond b (ended (byte "T") s) s)
+  due_held true s = ended_held (byte "T") s
   due_held false s = record { same_auctions = refl; same_number = refl }
 
-  stepped_held : {R : Type 0} (k : Option R) (t : Option ℕ) (s : RoomState P Q) → SameHeld s (clock_stepped k t s)
+  stepped_held : (k : Option ℕ) (t : Option ℕ) (s : RoomState P Q) → SameHeld s (clock_stepped k t s)
   stepped_held (Some e) t s = record { same_auctions = refl; same_number = refl }
   stepped_held None None s = record { same_auctions = refl; same_number = refl }
   stepped_held None (Some t) s =
@@ -55,12 +54,12 @@ module _ {P Q : Type 0} where
   current_held : (s : RoomState P Q) (a b : OpenAuction) → s.current ≡ Some a → b.number ≡ a.number → SameHeld s (with_current b s)
   current_held s a b e k = record { same_auctions = ap (λ n. numbers_of s.waiting ++ n ∷ []) k ∙ ap (λ o. numbers_of s.waiting ++ number_of_open o) (sym e); same_number = refl }
 
-  responded_held : (l : Bool) (s : RoomState P Q) (a b : OpenAuction) → s.current ≡ Some a → b.number ≡ a.number → SameHeld s (cond l (ended PlainBelowFloor (with_current b s)) (with_current b s))
+  responded_held : (l : Bool) (s : RoomState P Q) (a b : OpenAuction) → s.current ≡ Some a → b.number ≡ a.number → SameHeld s (cond l (ended (byte "E") (with_current b s)) (with_current b s))
   responded_held true s a b e k =
-      record { same_auctions = (ended_held PlainBelowFloor (with_current b s)).same_auctions ∙ (current_held s a b e k).same_auctions; same_number = refl }
+      record { same_auctions = (ended_held (byte "E") (with_current b s)).same_auctions ∙ (current_held s a b e k).same_auctions; same_number = refl }
   responded_held false s a b e k = current_held s a b e k
 
-  ticked_for_held : (c : Option EndCause) (q : TurnedQuote) (s : RoomState P Q) (a : OpenAuction) → s.current ≡ Some a → SameHeld s (ticked_for c q s a)
+  ticked_for_held : (c : Option ℕ) (q : TurnedQuote) (s : RoomState P Q) (a : OpenAuction) → s.current ≡ Some a → SameHeld s (ticked_for c q s a)
   ticked_for_held (Some c) q s a e = ended_held c s
   ticked_for_held None q s a e = current_held s a (at_floor (floor_now q.floor a.values.floor) a) e refl
 
@@ -130,7 +129,7 @@ module _ {P T F Q : Type 0} (w : World P T F Q) where
     m = moment w s c
 
     at_clock : claims_to m.stepped ≡ claims_to s
-    at_clock = claims_kept s m.stepped (stepped_held (input_refusal {F = F} c) (given_time c) s)
+    at_clock = claims_kept s m.stepped (stepped_held (input_refusal c) (given_time c) s)
 
     quiet_match : SameHeld m.stepped m.after → opened_number m.answer ≡ None → is_collected m.answer ≡ false → purse_after c m.answer purse ≡ claims_to m.after
     quiet_match h o k = quiet_purse c m.answer purse o k ∙ match ∙ sym at_clock ∙ sym (claims_kept m.stepped m.after h)
@@ -139,7 +138,7 @@ module _ {P T F Q : Type 0} (w : World P T F Q) where
     opened_match d =
         let new = m.stepped.opened + 1 in
         let claim = claim_to m.stepped.number new in
-        let all = ap (λ l. map (claim_to m.stepped.number) (l ++ new ∷ [])) (closed_auctions NextAuction m.stepped.current m.stepped.waiting) ∙ map-append (claim_to m.stepped.number) (auctions_held m.stepped) (new ∷ []) in
+        let all = ap (λ l. map (claim_to m.stepped.number) (l ++ new ∷ [])) (closed_auctions (byte "A") m.stepped.current m.stepped.waiting) ∙ map-append (claim_to m.stepped.number) (auctions_held m.stepped) (new ∷ []) in
         ap (λ x. purse_after x m.answer purse) d.call_is ∙ ap (λ (a : Answer F). purse ++ claim_in a) d.answer_is ∙ ap (λ l. l ++ claim ∷ []) (match ∙ sym at_clock)
         ∙ sym (ap claims_to d.after_is ∙ all)
 
@@ -166,7 +165,7 @@ module _ {P T F Q : Type 0} (w : World P T F Q) where
         quiet_match (subst (SameHeld m.stepped) (sym f) (record { same_auctions = held.same_auctions; same_number = held.same_number }))
         (ap (λ (v : Answer F). opened_number v) y) (ap (λ (v : Answer F). is_collected v) y)
     match_after made (halts t j y f) =
-        let held = ended_held Halted m.stepped in
+        let held = ended_held (byte "H") m.stepped in
         quiet_match (subst (SameHeld m.stepped) (sym f) (record { same_auctions = held.same_auctions; same_number = held.same_number }))
         (ap (λ (v : Answer F). opened_number v) y) (ap (λ (v : Answer F). is_collected v) y)
     match_after made (collected d) = collected_match made d

@@ -1,14 +1,13 @@
 -- Closing a desk. Where no auction is open, the first of the claims to a room's auctions collects the auction that has waited
 -- longest, and the others are the claims to the rest.
-use Rattle.std.proofs.Common.{◌≡◌, ℕ, Bool, true, false, cond, not, eqb, List, [], ◌∷◌, ◌++◌, map, length, get_or, Some, None, Ok, Option, Result, sym, refl, ap, ◌∙◌, arith, Vec, vec_items, vec_len, drop}
+use Rattle.std.specs.Result.{result_map_both}
+use Rattle.std.proofs.Common.{Err, IsOk, ◌≡◌, ℕ, Bool, true, false, cond, not, eqb, List, [], ◌∷◌, ◌++◌, map, length, get_or, Some, None, Ok, Option, Result, sym, refl, ap, ◌∙◌, arith, Vec, vec_items, vec_len, drop}
 use Rattle.std.proofs.lemmas.Bool.Decides.{nat_tests}
 use Rattle.std.proofs.lemmas.List.{length-map}
 use Rattle.std.specs.List.{remove}
 use Rattle.room.specs.declared.answers.ClaimNumbers.{ClaimNumbers}
-use Rattle.room.specs.declared.answers.Collection.{Collection}
-use Rattle.room.specs.declared.refusal.Refusal.{Refusal}
-use Rattle.room.specs.Collecting.{collectable, collect_call, collect_rows, fill_rows, waiting_now, written}
-use Rattle.room.specs.Refusals.{refuse, unless, outcome}
+use Rattle.room.specs.Collecting.{CollectionTold, collectable, collect_call, collect_rows, fill_rows, waiting_now, written}
+use Rattle.room.specs.Refusals.{RefusalTold, refuse, unless, outcome}
 use Rattle.room.specs.State.{EndedAuction, RoomState, is_number, numbered, without_number, with_waiting}
 use Rattle.room.specs.World.{World}
 use Rattle.room.proofs.Tests.{true_false}
@@ -40,10 +39,10 @@ module _ {P T F Q : Type 0} (w : World P T F Q) (s : RoomState P Q) (c : ClaimNu
   same n = grind (arith, nat_tests)
 
   -- what a collecting finds, by the claim's room, the open auction and those that wait
-  abbrev found : Bool → Bool → Option EndedAuction → Result EndedAuction (Refusal F)
+  abbrev found : Bool → Bool → Option EndedAuction → Result EndedAuction ℕ
   found here opened o = unless (refuse (not here) 42 (refuse opened 41 None)) (waiting_now o)
 
-  abbrev done : Result EndedAuction (Refusal F) → RoomState P Q × Result Collection (Refusal F)
+  abbrev done : Result EndedAuction ℕ → RoomState P Q × Result CollectionTold (RefusalTold F)
   done y = outcome y s (λ e. with_waiting (without_number c.auction s.waiting) s) (λ e. record { count = length (fill_rows w e); cause = e.cause })
 
   claims_are : (es : List EndedAuction) → s.current ≡ None → s.waiting ≡ es → claims_to s ≡ map (claim_to s.number) (map (λ (e : EndedAuction). e.number) es ++ [])
@@ -73,6 +72,11 @@ module _ {P T F Q : Type 0} (w : World P T F Q) (s : RoomState P Q) (c : ClaimNu
         rows_are = ap (written w) y;
         claims_left = both.1 ∙ sym (ap (λ o. map (claim_to s.number) (map (λ (e : EndedAuction). e.number) xs ++ number_of_open o)) n);
       }
+
+-- what is told of a result is accepted if the result is
+pub ok_as_told : {X Y E F : Type 0} (f : X → Y) (g : E → F) (r : Result X E) → IsOk (result_map_both f g r) → IsOk r
+ok_as_told f g (Ok x) h = h
+ok_as_told f g (Err e) h = h
 
 -- taking the first out of a list
 pub first_taken : {X Y : Type 0} (f : X → Y) (xs : List X) (x : X) → (length xs ≡ 0 → ⊥) → x ≡ get_or xs 0 x → f x ∷ map f (remove xs 0) ≡ map f xs

@@ -4,11 +4,9 @@ use Rattle.std.proofs.lemmas.List.{take_at}
 use Rattle.std.proofs.lemmas.Bool.Decides.{nat_tests}
 use Rattle.allocation.specs.declared.fill.FillRow.{FillRow}
 use Rattle.room.specs.declared.answers.ClaimNumbers.{ClaimNumbers}
-use Rattle.room.specs.declared.answers.Collection.{Collection}
 use Rattle.room.specs.declared.claim.Claim.{Claim}
-use Rattle.room.specs.declared.refusal.Refusal.{Refusal}
-use Rattle.room.specs.Collecting.{collectable, collect_call, collect_rows, fill_rows, written, waiting_now}
-use Rattle.room.specs.Refusals.{refuse, unless, outcome}
+use Rattle.room.specs.Collecting.{CollectionTold, collectable, collect_call, collect_rows, fill_rows, written, waiting_now}
+use Rattle.room.specs.Refusals.{RefusalTold, by_number, refuse, unless, outcome}
 use Rattle.room.specs.Rooms.{collected_answer}
 use Rattle.room.specs.State.{EndedAuction, RoomState, is_number, numbered, with_waiting, without_number}
 use Rattle.room.specs.World.{World}
@@ -20,36 +18,36 @@ use Rattle.session.proofs.SessionRuns.{session_is}
 use Rattle.room.proofs.Tests.{ok_err}
 
 module _ {P T F Q : Type 0} (w : World P T F Q) (s : RoomState P Q) (c : ClaimNumbers) where
-  abbrev told_of : Result EndedAuction (Refusal F) → RoomState P Q × Result Collection (Refusal F)
+  abbrev told_of : Result EndedAuction ℕ → RoomState P Q × Result CollectionTold (RefusalTold F)
   told_of y = outcome y s (λ e. with_waiting (without_number c.auction s.waiting) s) (λ e. record { count = length (fill_rows w e); cause = e.cause })
 
   -- of two lists that are both long enough, or both too short, one serves for the other
   pub serves : (n m : ℕ) → ltb n 129 ≡ ltb m 129 → step w s (Collect c n) ≡ step w s (Collect c m)
   serves n m h =
-      ap (λ (y : Result EndedAuction (Refusal F)). ((told_of y).0, answered (λ k. Collected k (written w y)) (told_of y).1))
-      (ap (λ (b : Bool). unless (refuse {F = F} b 6 None) (unless (refuse (not (eqb c.room s.number)) 42 (refuse (is_number c.auction s.current) 41 None)) (waiting_now (numbered c.auction s.waiting)))) h)
+      ap (λ (y : Result EndedAuction ℕ). ((told_of y).0, answered (λ k. Collected k (written w y)) (told_of y).1))
+      (ap (λ (b : Bool). unless (refuse b 6 None) (unless (refuse (not (eqb c.room s.number)) 42 (refuse (is_number c.auction s.current) 41 None)) (waiting_now (numbered c.auction s.waiting)))) h)
 
-  accepted_by : (y : Result EndedAuction (Refusal F)) (claim : Claim) (k : Collection) → Ok k ≡ collected_answer claim (told_of y).1
+  accepted_by : (y : Result EndedAuction ℕ) (claim : Claim) (k : CollectionTold) → Ok k ≡ collected_answer claim (told_of y).1
       → (answered (λ k. Collected k (written w y)) (told_of y).1 ≡ Collected k (written w y)) × (k.count ≡ length (written w y))
   accepted_by (Ok e) claim k h =
       let same : k ≡ record { count = length (fill_rows w e); cause = e.cause } = cc in
-      (ap (λ x. Collected x (fill_rows w e)) (sym same), ap (λ (x : Collection). x.count) same)
-  accepted_by (Err e) claim k h = ok_err k (e, claim) h
+      (ap (λ x. Collected x (fill_rows w e)) (sym same), ap (λ (x : CollectionTold). x.count) same)
+  accepted_by (Err n) claim k h = ok_err k (by_number n, claim) h
 
   -- an accepted collecting
-  pub accepted : (n : ℕ) (claim : Claim) (k : Collection) → Ok k ≡ collected_answer claim (collect_call w s c n).1
+  pub accepted : (n : ℕ) (claim : Claim) (k : CollectionTold) → Ok k ≡ collected_answer claim (collect_call w s c n).1
       → ((step w s (Collect c n)).1 ≡ Collected k (collect_rows w s c n)) × (k.count ≡ length (collect_rows w s c n))
   accepted n claim k h = accepted_by (collectable s c n) claim k h
 
-  refused_by : (y : Result EndedAuction (Refusal F)) (claim back : Claim) (e : Refusal F) → Err (e, back) ≡ collected_answer claim (told_of y).1
+  refused_by : (y : Result EndedAuction ℕ) (claim back : Claim) (e : RefusalTold F) → Err (e, back) ≡ collected_answer claim (told_of y).1
       → (answered (λ k. Collected k (written w y)) (told_of y).1 ≡ Refused e) × (back ≡ claim)
   refused_by (Ok x) claim back e h = ok_err _ (e, back) (sym h)
   refused_by (Err x) claim back e h =
-      let pair : (e, back) ≡ (x, claim) = cc in
-      (ap (λ (p : Refusal F × Claim). Refused p.0) (sym pair), ap (λ (p : Refusal F × Claim). p.1) pair)
+      let pair : (e, back) ≡ (by_number x, claim) = cc in
+      (ap (λ (p : RefusalTold F × Claim). Refused p.0) (sym pair), ap (λ (p : RefusalTold F × Claim). p.1) pair)
 
   -- a refused one
-  pub refused : (n : ℕ) (claim back : Claim) (e : Refusal F) → Err (e, back) ≡ collected_answer claim (collect_call w s c n).1 → ((step w s (Collect c n)).1 ≡ Refused e) × (back ≡ claim)
+  pub refused : (n : ℕ) (claim back : Claim) (e : RefusalTold F) → Err (e, back) ≡ collected_answer claim (collect_call w s c n).1 → ((step w s (Collect c n)).1 ≡ Refused e) × (back ≡ claim)
   refused n claim back e h = refused_by (collectable s c n) claim back e h
 
 -- rows that were written into a list are its front
@@ -60,7 +58,7 @@ front_of fs rows new e l =
     (ap (take (length fs)) e ∙ take_at fs (drop (length fs) rows) (length fs) refl, omega arith)
 
 -- an accepted collecting tells the front of the list that it wrote into
-pub gathered : {P T F Q : Type 0} (w : World P T F Q) (s : RoomState P Q) (c : ClaimNumbers) (n : ℕ) (claim : Claim) (k : Collection) (rows new : List FillRow)
+pub gathered : {P T F Q : Type 0} (w : World P T F Q) (s : RoomState P Q) (c : ClaimNumbers) (n : ℕ) (claim : Claim) (k : CollectionTold) (rows new : List FillRow)
     → Ok k ≡ collected_answer claim (collect_call w s c n).1 → new ≡ collect_rows w s c n ++ drop (length (collect_rows w s c n)) rows → length new ≡ length rows
     → (k.count ≤ length new) × ((step w s (Collect c n)).1 ≡ Collected k (take k.count new))
 gathered w s c n claim k rows new h e l =

@@ -9,14 +9,11 @@ use Rattle.std.proofs.Math.Bool.{or-true}
 use Rattle.std.specs.Int.{int_max, int_min}
 use Rattle.std.specs.Option.{option_map, option_or}
 use Rattle.market.specs.declared.range.TurnedQuote.{TurnedQuote}
-use Rattle.market.specs.declared.refusal.RangeRefusal.{RangeRefusal}
 use Rattle.market.specs.declared.side.Side.{Side}
 use Rattle.market.specs.declared.side.Side.TheVariants.{Buy, Sell}
 use Rattle.market.specs.Prices.{in_limits}
 use Rattle.market.specs.Range.{RangePrices, permitted, range_faced}
-use Rattle.market.specs.Refusals.{range_refusal}
 use Rattle.market.specs.Turned.{turned}
-use Rattle.allocation.specs.declared.cause.EndCause.TheVariants.{Deadline, Halt as Halted}
 use Rattle.allocation.specs.declared.order.PairedOrder.{PairedOrder}
 use Rattle.allocation.specs.declared.response.Kind.{Kind}
 use Rattle.allocation.specs.declared.response.Kind.TheVariants.{Sealed, Plain}
@@ -26,7 +23,6 @@ use Rattle.allocation.specs.FillLaws.{Told, response_told}
 use Rattle.allocation.specs.Table.{is_of, own_response}
 use Rattle.room.specs.declared.answers.ClaimNumbers.{ClaimNumbers}
 use Rattle.room.specs.declared.answers.StoredTerms.{StoredTerms}
-use Rattle.room.specs.declared.refusal.Refusal.{Refusal}
 use Rattle.room.specs.declared.requests.ChangeRequest.{ChangeRequest}
 use Rattle.room.specs.declared.requests.OpeningRequest.{OpeningRequest}
 use Rattle.room.specs.declared.requests.ResponseRequest.{ResponseRequest}
@@ -35,8 +31,8 @@ use Rattle.room.specs.Checks.{open_checks, respond_checks, change_checks, withdr
 use Rattle.room.specs.Clock.{due, clocked, timed}
 use Rattle.room.specs.Collecting.{collectable, collect_call, collect_rows, waiting_now, fill_rows}
 use Rattle.room.specs.Halts.{halt_call, resume_call, clock_call}
-use Rattle.room.specs.Openings.{any_waits, guarantee_refusal, range_told, opening_range, opened_with, opening, open_call}
-use Rattle.room.specs.Refusals.{refusal_number, refuse, unless, and_then, outcome}
+use Rattle.room.specs.Openings.{any_waits, guarantee_refusal, opening_range, opened_with, opening, open_call}
+use Rattle.room.specs.Refusals.{RefusalTold, by_number, refuse, unless, and_then, outcome}
 use Rattle.room.specs.Responses.{same_side, is_plain, responding_to, responding, change_refusal, changing_in, changing, standing_now, plain_checked, withdrawing_from, withdrawing, response_refusal, terms_told, stored_price, stored_size, responded, turned_in, respond_call, change_call, withdraw_call, with_change, with_withdrawal}
 use Rattle.room.specs.State.{OpenAuction, EndedAuction, RoomState, new_room, at_time, closed, ended, is_number, numbered, used_by, with_halted, with_current, with_waiting, without_number}
 use Rattle.room.specs.Ticks.{ticking, ticking_by, tick_call}
@@ -53,8 +49,10 @@ use Rattle.session.proofs.Choices.{cond_through}
 use Rattle.session.proofs.Ending.AsTold.{linked}
 use Rattle.session.proofs.Ending.Held.{holds_new}
 use Rattle.session.proofs.Ending.Laws.{throughout}
-use Rattle.session.proofs.Inputs.{told_check, input_reason_is}
+use Rattle.session.proofs.Inputs.{same_check, input_reason_is}
 use Rattle.session.proofs.Linked.{Matches, Current, none_open, one_open, Linked}
+use Rattle.std.specs.Str.{byte}
+use Rattle.std.specs.Result.{result_err}
 
 -- The first of two lists is the first of the first, or of the second.
 first_by : {X : Type 0} (b : Bool) (x : X) (o r : Option X) → cond b (Some x) (option_or o r) ≡ option_or (cond b (Some x) o) r
@@ -83,10 +81,6 @@ own_is side member own (x ∷ xs) = own_by side (is_of member own x) x (own_resp
 some_is : {X Y : Type 0} (f : X → Y) (o : Option X) → is_some (option_map f o) ≡ is_some o
 some_is f None = refl
 some_is f (Some x) = refl
-
-map_none : {X Y : Type 0} (f : X → Y) (o : Option X) → option_map f o ≡ None → o ≡ None
-map_none f None h = refl
-map_none f (Some x) h = none_some (f x) (sym h)
 
 side_is : (a b : Side) → same_side a b ≡ on_one_side a b
 side_is Buy Buy = refl
@@ -126,12 +120,12 @@ closes _ _ t u (one_open a s m) e =
 
 -- Some auction waits after the clock step if one did before, or the open one ends.
 waits_by : (b : Bool) (a : OpenAuction) (s : Story) (es : List EndedAuction)
-    → any_waits (cond b (closed Deadline (Some a) es) es) ≡ (ltb 0 (length es) || not (is_some (cond b None (Some s))))
+    → any_waits (cond b (closed (byte "T") (Some a) es) es) ≡ (ltb 0 (length es) || not (is_some (cond b None (Some s))))
 waits_by true a s es = any_behind es _ ∙ sym (or-true (ltb 0 (length es)))
 waits_by false a s es = any_is es ∙ sym (or_false (ltb 0 (length es)))
 
 waits_stepped : (o : Option OpenAuction) (r : Option Story) (t u : ℕ) (es : List EndedAuction) (n : ℕ) → Current o r → t ≡ u → length es ≡ n
-    → any_waits (cond (due t o) (closed Deadline o es) es) ≡ (ltb 0 n || (is_some r && not (is_some (not_due u r))))
+    → any_waits (cond (due t o) (closed (byte "T") o es) es) ≡ (ltb 0 n || (is_some r && not (is_some (not_due u r))))
 waits_stepped _ _ t u es n none_open e k = any_is es ∙ ap (ltb 0) k ∙ sym (or_false (ltb 0 n))
 waits_stepped _ _ t u es n (one_open a s m) e k =
     waits_by (leb a.deadline t) a s es
@@ -139,196 +133,195 @@ waits_stepped _ _ t u es n (one_open a s m) e k =
     ∙ ap (λ i. ltb 0 i || not (is_some (not_due u (Some s)))) k
 
 -- What refuses a result, by number.
+abbrev number_of : {X : Type 0} → Result X ℕ → Option ℕ
+number_of = result_err
+
+number_ok : {X : Type 0} (o : Option ℕ) (x : X) → number_of (unless o (Ok x)) ≡ o
+number_ok None x = refl
+number_ok (Some n) x = refl
+
+-- The range of an order, and its guarantee.
+number_ranged : (b : Bool) (r : RangePrices) (k : RangePrices → Result RangePrices ℕ) → number_of (and_then (cond b (Err 15) (Ok r)) k) ≡ cond b (Some 15) (number_of (k r))
+number_ranged true r k = refl
+number_ranged false r k = refl
+
+-- What refuses an answer, by number.
 module _ {F : Type 0} where
-  abbrev told_number : {X : Type 0} → Result X (Refusal F) → Option ℕ
+  abbrev told_number : {X : Type 0} → Result X (RefusalTold F) → Option ℕ
   told_number (Ok x) = None
-  told_number (Err e) = Some (refusal_number e)
+  told_number (Err e) = Some e.number
 
-  told_unless : {X : Type 0} (o : Option (Refusal F)) (y : Result X (Refusal F)) → told_number (unless o y) ≡ option_or (option_map refusal_number o) (told_number y)
-  told_unless None y = refl
-  told_unless (Some e) y = refl
-
-  told_ok : {X : Type 0} (o : Option (Refusal F)) (x : X) → told_number (unless o (Ok x)) ≡ option_map refusal_number o
-  told_ok None x = refl
-  told_ok (Some e) x = refl
-
-  told_outcome : {S X Y : Type 0} (y : Result X (Refusal F)) (s : S) (effect : X → S) (answer : X → Y) → told_number (outcome y s effect answer).1 ≡ told_number y
-  told_outcome (Ok x) s effect answer = refl
-  told_outcome (Err e) s effect answer = refl
-
-  told_answer : {X : Type 0} (f : X → Answer F) (y : Result X (Refusal F)) → ((x : X) → refused_number (f x) ≡ None) → refused_number (answered f y) ≡ told_number y
+  told_answer : {X : Type 0} (f : X → Answer F) (y : Result X (RefusalTold F)) → ((x : X) → refused_number (f x) ≡ None) → refused_number (answered f y) ≡ told_number y
   told_answer f (Ok x) h = h x
   told_answer f (Err e) h = refl
 
   -- What no accepted and no refused answer tells, no answer tells.
-  tells_none : {X Y : Type 0} (g : Answer F → Option Y) (f : X → Answer F) (y : Result X (Refusal F)) → ((x : X) → g (f x) ≡ None) → ((e : Refusal F) → g (Refused e) ≡ None) → g (answered f y) ≡ None
+  tells_none : {X Y : Type 0} (g : Answer F → Option Y) (f : X → Answer F) (y : Result X (RefusalTold F)) → ((x : X) → g (f x) ≡ None) → ((e : RefusalTold F) → g (Refused e) ≡ None) → g (answered f y) ≡ None
   tells_none g f (Ok x) h k = h x
   tells_none g f (Err e) h k = k e
 
   -- An answer is in the call's kind, if what is accepted is.
-  in_kind_by : {T X : Type 0} (c : Call T) (f : X → Answer F) (y : Result X (Refusal F)) → ((x : X) → in_kind c (f x) ≡ true) → in_kind c (answered f y) ≡ true
+  in_kind_by : {T X : Type 0} (c : Call T) (f : X → Answer F) (y : Result X (RefusalTold F)) → ((x : X) → in_kind c (f x) ≡ true) → in_kind c (answered f y) ≡ true
   in_kind_by c f (Ok x) h = h x
   in_kind_by c f (Err e) h = refl
 
-  -- The range of an order, and its guarantee.
-  told_range : (b : Bool) (r : RangePrices) (k : RangePrices → Result RangePrices (Refusal F)) → told_number (and_then (range_told (cond b (Err (range_refusal 15)) (Ok r))) k) ≡ cond b (Some 15) (told_number (k r))
-  told_range true r k = refl
-  told_range false r k = refl
+told_outcome : (F : Type 0) {S X Y : Type 0} (y : Result X ℕ) (s : S) (effect : X → S) (answer : X → Y) → told_number (outcome {F = F} y s effect answer).1 ≡ number_of y
+told_outcome F (Ok x) s effect answer = refl
+told_outcome F (Err n) s effect answer = refl
 
-module _ (F : Type 0) where
-  abbrev ranged : PairedOrder → ℕ → Result RangePrices RangeRefusal → Result RangePrices (Refusal F)
-  ranged o opened y = and_then (range_told y) (λ r. unless (guarantee_refusal o opened r) (Ok r))
+abbrev ranged : PairedOrder → ℕ → Result RangePrices ℕ → Result RangePrices ℕ
+ranged o opened y = and_then y (λ r. unless (guarantee_refusal o opened r) (Ok r))
 
-  range_reasons : (o : PairedOrder) (opened : ℕ) (floor contra : Option ℤ)
-      → told_number (ranged o opened (range_faced o.side (turned o.side o.limit) floor contra))
-      ≡ first_that_holds (price_reasons o (record { floor = floor; contra = contra }) ++ (leb 1000000 opened, 17) ∷ [])
-  range_reasons o opened None contra = refl
-  range_reasons o opened (Some floor) None = refl
-  range_reasons o opened (Some floor) (Some contra) =
-      let limit = turned o.side o.limit in
-      let guarantee = turned o.side o.guarantee.price in
-      let r : RangePrices = record { side = o.side; floor = floor; contra = contra; initiating = int_min limit contra } in
-      told_range (lt_z (int_min limit contra) floor) r (λ r. unless (guarantee_refusal o opened r) (Ok r))
-      ∙ ap (λ b. cond b (Some 15) (told_number (unless (guarantee_refusal {F = F} o opened r) (Ok r)))) (lower_is limit contra floor)
-      ∙ ap (cond (lt_z limit floor || lt_z contra floor) (Some 15))
-      (told_ok (guarantee_refusal o opened r) r
-      ∙ told_check F _ _ 16 _ _ refl (lower_is limit contra guarantee) (told_check F (leb 1000000 opened) (leb 1000000 opened) 17 None None refl refl refl))
+range_reasons : (o : PairedOrder) (opened : ℕ) (floor contra : Option ℤ)
+    → number_of (ranged o opened (range_faced o.side (turned o.side o.limit) floor contra))
+    ≡ first_that_holds (price_reasons o (record { floor = floor; contra = contra }) ++ (leb 1000000 opened, 17) ∷ [])
+range_reasons o opened None contra = refl
+range_reasons o opened (Some floor) None = refl
+range_reasons o opened (Some floor) (Some contra) =
+    let limit = turned o.side o.limit in
+    let guarantee = turned o.side o.guarantee.price in
+    let r : RangePrices = record { side = o.side; floor = floor; contra = contra; initiating = int_min limit contra } in
+    number_ranged (lt_z (int_min limit contra) floor) r (λ r. unless (guarantee_refusal o opened r) (Ok r))
+    ∙ ap (λ b. cond b (Some 15) (number_of (unless (guarantee_refusal o opened r) (Ok r)))) (lower_is limit contra floor)
+    ∙ ap (cond (lt_z limit floor || lt_z contra floor) (Some 15))
+    (number_ok (guarantee_refusal o opened r) r
+    ∙ same_check _ _ 16 _ _ (lower_is limit contra guarantee) refl)
 
-  -- The tests of a response, a change and a withdrawal on the open auction.
-  module _ (a : OpenAuction) (s : Story) (m : Matches s a) where
-    order_side : a.values.order.side ≡ s.opening.order.side
-    order_side = ap (λ (o : PairedOrder). o.side) m.order_is
+-- The tests of a response, a change and a withdrawal on the open auction.
+module _ (a : OpenAuction) (s : Story) (m : Matches s a) where
+  order_side : a.values.order.side ≡ s.opening.order.side
+  order_side = ap (λ (o : PairedOrder). o.side) m.order_is
 
-    stands_as : (member own : ℕ) → standing_of member own s.stood ≡ option_map (response_told a.values.order.side) (own_response member own a.values.stood)
-    stands_as member own = ap (standing_of member own) (sym m.stood_is) ∙ own_is a.values.order.side member own a.values.stood
+  stands_as : (member own : ℕ) → standing_of member own s.stood ≡ option_map (response_told a.values.order.side) (own_response member own a.values.stood)
+  stands_as member own = ap (standing_of member own) (sym m.stood_is) ∙ own_is a.values.order.side member own a.values.stood
 
-    stands_is : (member own : ℕ) → is_some (own_response member own a.values.stood) ≡ is_some (standing_of member own s.stood)
-    stands_is member own = sym (some_is (response_told a.values.order.side) (own_response member own a.values.stood)) ∙ sym (ap is_some (stands_as member own))
+  stands_is : (member own : ℕ) → is_some (own_response member own a.values.stood) ≡ is_some (standing_of member own s.stood)
+  stands_is member own = sym (some_is (response_told a.values.order.side) (own_response member own a.values.stood)) ∙ sym (ap is_some (stands_as member own))
 
-    above_is : (z : ℤ) → lt_z a.values.initiating (turned_in a z) ≡ above_initiating s z
-    above_is z = ap (λ y. lt_z y (turned a.values.order.side z)) m.initiating_is ∙ ap (λ d. lt_z s.opening.range.initiating (turned d z)) order_side
+  above_is : (z : ℤ) → lt_z a.values.initiating (turned_in a z) ≡ above_initiating s z
+  above_is z = ap (λ y. lt_z y (turned a.values.order.side z)) m.initiating_is ∙ ap (λ d. lt_z s.opening.range.initiating (turned d z)) order_side
 
-    used_is : (member : ℕ) → from_to 1 16 member ≡ true → leb 10000 (used_by member a.used) ≡ used_up s member
-    used_is member h = ap (leb 10000) (m.used_is member (grind (arith, nat_tests)) (grind (arith, nat_tests)))
+  used_is : (member : ℕ) → from_to 1 16 member ≡ true → leb 10000 (used_by member a.used) ≡ used_up s member
+  used_is member h = ap (leb 10000) (m.used_is member (grind (arith, nat_tests)) (grind (arith, nat_tests)))
 
-    respond_told : (x : ResponseRequest) → from_to 1 16 x.member ≡ true → option_map refusal_number (response_refusal {F = F} a x) ≡ first_that_holds (respond_reasons x s)
-    respond_told x h =
-        told_check F _ _ 22 _ _ refl (side_is x.side a.values.order.side ∙ ap (on_one_side x.side) order_side)
-        (told_check F _ _ 23 _ _ refl (above_is x.price)
-        (told_check F _ _ 24 _ _ refl (stands_is x.member x.own)
-        (told_check F _ _ 27 None None refl (used_is x.member h) refl)))
+  respond_told : (x : ResponseRequest) → from_to 1 16 x.member ≡ true → response_refusal a x ≡ first_that_holds (respond_reasons x s)
+  respond_told x h =
+      same_check _ _ 22 _ _ (side_is x.side a.values.order.side ∙ ap (on_one_side x.side) order_side)
+      (same_check _ _ 23 _ _ (above_is x.price)
+      (same_check _ _ 24 _ _ (stands_is x.member x.own)
+      (same_check _ _ 27 None None (used_is x.member h) refl)))
 
-    changed_if : (x : ChangeRequest) (o : Option Response) → from_to 1 16 x.member ≡ true
-        → told_number {F = F} (and_then (standing_now o) (λ y. unless (change_refusal a y x) (Ok a)))
-        ≡ first_that_holds (sealed_reasons (option_map (response_told a.values.order.side) o) ++ (above_initiating s x.price, 23) ∷ ((used_up s x.member, 27) ∷ []))
-    changed_if x None h = refl
-    changed_if x (Some y) h =
-        told_ok (change_refusal {F = F} a y x) a
-        ∙ told_check F _ _ 26 _ _ refl (kind_is y.kind) (told_check F _ _ 23 _ _ refl (above_is x.price) (told_check F _ _ 27 None None refl (used_is x.member h) refl))
+  changed_if : (x : ChangeRequest) (o : Option Response) → from_to 1 16 x.member ≡ true
+      → number_of (and_then (standing_now o) (λ y. unless (change_refusal a y x) (Ok a)))
+      ≡ first_that_holds (sealed_reasons (option_map (response_told a.values.order.side) o) ++ (above_initiating s x.price, 23) ∷ ((used_up s x.member, 27) ∷ []))
+  changed_if x None h = refl
+  changed_if x (Some y) h =
+      number_ok (change_refusal a y x) a
+      ∙ same_check _ _ 26 _ _ (kind_is y.kind) (same_check _ _ 23 _ _ (above_is x.price) (same_check _ _ 27 None None (used_is x.member h) refl))
 
-    change_told : (x : ChangeRequest) → from_to 1 16 x.member ≡ true → told_number (changing_in {F = F} (Some a) x) ≡ first_that_holds (change_reasons x s)
-    change_told x h =
-        changed_if x (own_response x.member x.own a.values.stood) h
-        ∙ ap (λ r. first_that_holds (sealed_reasons r ++ (above_initiating s x.price, 23) ∷ ((used_up s x.member, 27) ∷ []))) (sym (stands_as x.member x.own))
+  change_told : (x : ChangeRequest) → from_to 1 16 x.member ≡ true → number_of (changing_in (Some a) x) ≡ first_that_holds (change_reasons x s)
+  change_told x h =
+      changed_if x (own_response x.member x.own a.values.stood) h
+      ∙ ap (λ r. first_that_holds (sealed_reasons r ++ (above_initiating s x.price, 23) ∷ ((used_up s x.member, 27) ∷ []))) (sym (stands_as x.member x.own))
 
-    withdrawn_if : (o : Option Response)
-        → told_number {F = F} {X = OpenAuction × Response} (and_then (standing_now o) (λ y. unless (plain_checked y None) (Ok (a, y))))
-        ≡ first_that_holds (sealed_reasons (option_map (response_told a.values.order.side) o))
-    withdrawn_if None = refl
-    withdrawn_if (Some y) = told_ok (plain_checked {F = F} y None) (a, y) ∙ told_check F _ _ 26 None None refl (kind_is y.kind) refl
+  withdrawn_if : (o : Option Response)
+      → number_of {X = OpenAuction × Response} (and_then (standing_now o) (λ y. unless (plain_checked y None) (Ok (a, y))))
+      ≡ first_that_holds (sealed_reasons (option_map (response_told a.values.order.side) o))
+  withdrawn_if None = refl
+  withdrawn_if (Some y) = number_ok (plain_checked y None) (a, y) ∙ same_check _ _ 26 None None (kind_is y.kind) refl
 
-    withdraw_told : (x : WithdrawRequest) → told_number (withdrawing_from {F = F} (Some a) x) ≡ first_that_holds (withdraw_reasons x s)
-    withdraw_told x = withdrawn_if (own_response x.member x.own a.values.stood) ∙ ap (λ r. first_that_holds (sealed_reasons r)) (sym (stands_as x.member x.own))
+  withdraw_told : (x : WithdrawRequest) → number_of (withdrawing_from (Some a) x) ≡ first_that_holds (withdraw_reasons x s)
+  withdraw_told x = withdrawn_if (own_response x.member x.own a.values.stood) ∙ ap (λ r. first_that_holds (sealed_reasons r)) (sym (stands_as x.member x.own))
 
-    -- The terms.
-    terms_as : (price : ℤ) (size : ℕ) → terms_told a (stored_price a price) (stored_size a size) ≡ terms_kept s price size
-    terms_as price size =
-        let of : Side → ℤ → ℕ → StoredTerms = λ side floor most. record { price = turned side (int_max floor (turned side price)); size = min size most } in
-        ap (λ d. of d a.values.floor a.values.order.size) order_side
-        ∙ ap (λ f. of s.opening.order.side f a.values.order.size) m.floor_is
-        ∙ ap (λ (o : PairedOrder). of s.opening.order.side s.floor o.size) m.order_is
+  -- The terms.
+  terms_as : (price : ℤ) (size : ℕ) → terms_told a (stored_price a price) (stored_size a size) ≡ terms_kept s price size
+  terms_as price size =
+      let of : Side → ℤ → ℕ → StoredTerms = λ side floor most. record { price = turned side (int_max floor (turned side price)); size = min size most } in
+      ap (λ d. of d a.values.floor a.values.order.size) order_side
+      ∙ ap (λ f. of s.opening.order.side f a.values.order.size) m.floor_is
+      ∙ ap (λ (o : PairedOrder). of s.opening.order.side s.floor o.size) m.order_is
 
-    withdrawn_terms : (x : WithdrawRequest) (y : Response) → own_response x.member x.own a.values.stood ≡ Some y
-        → option_map (λ (r : Told). record { price = r.price; size = r.size }) (standing_of x.member x.own s.stood) ≡ Some (terms_told a y.price y.size)
-    withdrawn_terms x y h =
-        ap (option_map (λ (r : Told). record { price = r.price; size = r.size })) (stands_as x.member x.own ∙ ap (option_map (response_told a.values.order.side)) h)
+  withdrawn_terms : (x : WithdrawRequest) (y : Response) → own_response x.member x.own a.values.stood ≡ Some y
+      → option_map (λ (r : Told). record { price = r.price; size = r.size }) (standing_of x.member x.own s.stood) ≡ Some (terms_told a y.price y.size)
+  withdrawn_terms x y h =
+      ap (option_map (λ (r : Told). record { price = r.price; size = r.size })) (stands_as x.member x.own ∙ ap (option_map (response_told a.values.order.side)) h)
 
-  -- What an accepted response, change or withdrawal is told is due, if what each result that is accepted is told is.
-  stored_due : {S X : Type 0} (y : Result X (Refusal F)) (s : S) (effect : X → S) (answer : X → StoredTerms) (t : StoredTerms) (due : Option StoredTerms)
-      → answered {F = F} Stored (outcome y s effect answer).1 ≡ Stored t → ((x : X) → y ≡ Ok x → due ≡ Some (answer x)) → due ≡ Some t
-  stored_due (Ok x) s effect answer t due h g = g x refl ∙ (let e : answer x ≡ t = cc in ap Some e)
-  stored_due (Err e) s effect answer t due h g = absurd cc
+-- What an accepted response, change or withdrawal is told is due, if what each result that is accepted is told is.
+stored_due : {F S X : Type 0} (y : Result X ℕ) (s : S) (effect : X → S) (answer : X → StoredTerms) (t : StoredTerms) (due : Option StoredTerms)
+    → answered {F = F} Stored (outcome y s effect answer).1 ≡ Stored t → ((x : X) → y ≡ Ok x → due ≡ Some (answer x)) → due ≡ Some t
+stored_due (Ok x) s effect answer t due h g = g x refl ∙ (let e : answer x ≡ t = cc in ap Some e)
+stored_due (Err e) s effect answer t due h g = absurd cc
 
-  responded_to : (a b : OpenAuction) (x : ResponseRequest) → responding_to {F = F} (Some a) x ≡ Ok b → a ≡ b
-  responded_to a b x h = let e = (unless_ok (response_refusal {F = F} a x) (Ok a) b h).1 in cc
+responded_to : (a b : OpenAuction) (x : ResponseRequest) → responding_to (Some a) x ≡ Ok b → a ≡ b
+responded_to a b x h = let e = (unless_ok (response_refusal a x) (Ok a) b h).1 in cc
 
-  standing_ok : (o : Option Response) (y : Response) → standing_now {F = F} o ≡ Ok y → o ≡ Some y
-  standing_ok None y h = ok_err y _ (sym h)
-  standing_ok (Some x) y h = cc
+standing_ok : (o : Option Response) (y : Response) → standing_now o ≡ Ok y → o ≡ Some y
+standing_ok None y h = ok_err y _ (sym h)
+standing_ok (Some x) y h = cc
 
-  changed_in : (a b : OpenAuction) (x : ChangeRequest) → changing_in {F = F} (Some a) x ≡ Ok b → a ≡ b
-  changed_in a b x h =
-      let found = and_then_ok (standing_now {F = F} (own_response x.member x.own a.values.stood)) (λ y. unless (change_refusal a y x) (Ok a)) b h in
-      let e = (unless_ok (change_refusal {F = F} a found.0 x) (Ok a) b found.2).1 in cc
+changed_in : (a b : OpenAuction) (x : ChangeRequest) → changing_in (Some a) x ≡ Ok b → a ≡ b
+changed_in a b x h =
+    let found = and_then_ok (standing_now (own_response x.member x.own a.values.stood)) (λ y. unless (change_refusal a y x) (Ok a)) b h in
+    let e = (unless_ok (change_refusal a found.0 x) (Ok a) b found.2).1 in cc
 
-  withdrawn_from : (a : OpenAuction) (f : OpenAuction × Response) (x : WithdrawRequest) → withdrawing_from {F = F} (Some a) x ≡ Ok f
-      → (y : Response) × (own_response x.member x.own a.values.stood ≡ Some y) × ((a, y) ≡ f)
-  withdrawn_from a f x h =
-      let found = and_then_ok (standing_now {F = F} (own_response x.member x.own a.values.stood)) (λ y. unless (plain_checked y None) (Ok (a, y))) f h in
-      let e = (unless_ok (plain_checked {F = F} found.0 None) (Ok (a, found.0)) f found.2).1 in
-      (found.0, standing_ok (own_response x.member x.own a.values.stood) found.0 found.1, cc)
+withdrawn_from : (a : OpenAuction) (f : OpenAuction × Response) (x : WithdrawRequest) → withdrawing_from (Some a) x ≡ Ok f
+    → (y : Response) × (own_response x.member x.own a.values.stood ≡ Some y) × ((a, y) ≡ f)
+withdrawn_from a f x h =
+    let found = and_then_ok (standing_now (own_response x.member x.own a.values.stood)) (λ y. unless (plain_checked y None) (Ok (a, y))) f h in
+    let e = (unless_ok (plain_checked found.0 None) (Ok (a, found.0)) f found.2).1 in
+    (found.0, standing_ok (own_response x.member x.own a.values.stood) found.0 found.1, cc)
 
-  -- By the open auction, if there is one.
-  responding_told : (o : Option OpenAuction) (r : Option Story) (x : ResponseRequest) → Current o r → from_to 1 16 x.member ≡ true → told_number {F = F} (responding_to o x) ≡ first_that_holds (by_open r (respond_reasons x))
-  responding_told _ _ x none_open h = refl
-  responding_told _ _ x (one_open a s m) h = told_ok (response_refusal {F = F} a x) a ∙ respond_told a s m x h
+-- By the open auction, if there is one.
+responding_told : (o : Option OpenAuction) (r : Option Story) (x : ResponseRequest) → Current o r → from_to 1 16 x.member ≡ true → number_of (responding_to o x) ≡ first_that_holds (by_open r (respond_reasons x))
+responding_told _ _ x none_open h = refl
+responding_told _ _ x (one_open a s m) h = number_ok (response_refusal a x) a ∙ respond_told a s m x h
 
-  changing_told : (o : Option OpenAuction) (r : Option Story) (x : ChangeRequest) → Current o r → from_to 1 16 x.member ≡ true → told_number {F = F} (changing_in o x) ≡ first_that_holds (by_open r (change_reasons x))
-  changing_told _ _ x none_open h = refl
-  changing_told _ _ x (one_open a s m) h = change_told a s m x h
+changing_told : (o : Option OpenAuction) (r : Option Story) (x : ChangeRequest) → Current o r → from_to 1 16 x.member ≡ true → number_of (changing_in o x) ≡ first_that_holds (by_open r (change_reasons x))
+changing_told _ _ x none_open h = refl
+changing_told _ _ x (one_open a s m) h = change_told a s m x h
 
-  withdrawing_told : (o : Option OpenAuction) (r : Option Story) (x : WithdrawRequest) → Current o r → told_number {F = F} (withdrawing_from o x) ≡ first_that_holds (by_open r (withdraw_reasons x))
-  withdrawing_told _ _ x none_open = refl
-  withdrawing_told _ _ x (one_open a s m) = withdraw_told a s m x
+withdrawing_told : (o : Option OpenAuction) (r : Option Story) (x : WithdrawRequest) → Current o r → number_of (withdrawing_from o x) ≡ first_that_holds (by_open r (withdraw_reasons x))
+withdrawing_told _ _ x none_open = refl
+withdrawing_told _ _ x (one_open a s m) = withdraw_told a s m x
 
-  responding_terms : (T : Type 0) (o : Option OpenAuction) (r : Option Story) (x : ResponseRequest) (b : OpenAuction) → Current o r → responding_to {F = F} o x ≡ Ok b
-      → terms_due {T = T} r (Respond x) ≡ Some (terms_told b (stored_price b x.price) (stored_size b x.size))
-  responding_terms T _ _ x b none_open h = ok_err b _ (sym h)
-  responding_terms T _ _ x b (one_open a s m) h =
-      ap Some (sym (terms_as a s m x.price x.size) ∙ ap (λ z. terms_told z (stored_price z x.price) (stored_size z x.size)) (responded_to a b x h))
+responding_terms : (T : Type 0) (o : Option OpenAuction) (r : Option Story) (x : ResponseRequest) (b : OpenAuction) → Current o r → responding_to o x ≡ Ok b
+    → terms_due {T = T} r (Respond x) ≡ Some (terms_told b (stored_price b x.price) (stored_size b x.size))
+responding_terms T _ _ x b none_open h = ok_err b _ (sym h)
+responding_terms T _ _ x b (one_open a s m) h =
+    ap Some (sym (terms_as a s m x.price x.size) ∙ ap (λ z. terms_told z (stored_price z x.price) (stored_size z x.size)) (responded_to a b x h))
 
-  changing_terms : (T : Type 0) (o : Option OpenAuction) (r : Option Story) (x : ChangeRequest) (b : OpenAuction) → Current o r → changing_in {F = F} o x ≡ Ok b
-      → terms_due {T = T} r (Change x) ≡ Some (terms_told b (stored_price b x.price) (stored_size b x.size))
-  changing_terms T _ _ x b none_open h = ok_err b _ (sym h)
-  changing_terms T _ _ x b (one_open a s m) h =
-      ap Some (sym (terms_as a s m x.price x.size) ∙ ap (λ z. terms_told z (stored_price z x.price) (stored_size z x.size)) (changed_in a b x h))
+changing_terms : (T : Type 0) (o : Option OpenAuction) (r : Option Story) (x : ChangeRequest) (b : OpenAuction) → Current o r → changing_in o x ≡ Ok b
+    → terms_due {T = T} r (Change x) ≡ Some (terms_told b (stored_price b x.price) (stored_size b x.size))
+changing_terms T _ _ x b none_open h = ok_err b _ (sym h)
+changing_terms T _ _ x b (one_open a s m) h =
+    ap Some (sym (terms_as a s m x.price x.size) ∙ ap (λ z. terms_told z (stored_price z x.price) (stored_size z x.size)) (changed_in a b x h))
 
-  withdrawing_terms : (T : Type 0) (o : Option OpenAuction) (r : Option Story) (x : WithdrawRequest) (f : OpenAuction × Response) → Current o r → withdrawing_from {F = F} o x ≡ Ok f
-      → terms_due {T = T} r (Withdraw x) ≡ Some (terms_told f.0 f.1.price f.1.size)
-  withdrawing_terms T _ _ x f none_open h = ok_err f _ (sym h)
-  withdrawing_terms T _ _ x f (one_open a s m) h =
-      let y = withdrawn_from a f x h in
-      withdrawn_terms a s m x y.0 y.1 ∙ ap (λ (z : OpenAuction × Response). Some (terms_told z.0 z.1.price z.1.size)) y.2
+withdrawing_terms : (T : Type 0) (o : Option OpenAuction) (r : Option Story) (x : WithdrawRequest) (f : OpenAuction × Response) → Current o r → withdrawing_from o x ≡ Ok f
+    → terms_due {T = T} r (Withdraw x) ≡ Some (terms_told f.0 f.1.price f.1.size)
+withdrawing_terms T _ _ x f none_open h = ok_err f _ (sym h)
+withdrawing_terms T _ _ x f (one_open a s m) h =
+    let y = withdrawn_from a f x h in
+    withdrawn_terms a s m x y.0 y.1 ∙ ap (λ (z : OpenAuction × Response). Some (terms_told z.0 z.1.price z.1.size)) y.2
 
-  -- Whether a collecting is refused, by the tests one after another.
-  collect_told : (a b c : Bool) (o : Option EndedAuction) → told_number {F = F} (unless (refuse a 6 None) (unless (refuse b 42 (refuse c 41 None)) (waiting_now o)))
-      ≡ first_that_holds ((a, 6) ∷ ((b, 42) ∷ ((c, 41) ∷ ((not (is_some o), 42) ∷ []))))
-  collect_told true b c o = refl
-  collect_told false true c o = refl
-  collect_told false false true o = refl
-  collect_told false false false None = refl
-  collect_told false false false (Some e) = refl
+-- Whether a collecting is refused, by the tests one after another.
+collect_told : (a b c : Bool) (o : Option EndedAuction) → number_of (unless (refuse a 6 None) (unless (refuse b 42 (refuse c 41 None)) (waiting_now o)))
+    ≡ first_that_holds ((a, 6) ∷ ((b, 42) ∷ ((c, 41) ∷ ((not (is_some o), 42) ∷ []))))
+collect_told true b c o = refl
+collect_told false true c o = refl
+collect_told false false true o = refl
+collect_told false false false None = refl
+collect_told false false false (Some e) = refl
 
-  told_room : {X : Type 0} (a b : Bool) (y : Result X (Refusal F)) → told_number (unless (refuse a 12 (refuse b 13 None)) y) ≡ cond a (Some 12) (cond b (Some 13) (told_number y))
-  told_room true b y = refl
-  told_room false true y = refl
-  told_room false false y = refl
+told_room : {X : Type 0} (a b : Bool) (y : Result X ℕ) → number_of (unless (refuse a 12 (refuse b 13 None)) y) ≡ cond a (Some 12) (cond b (Some 13) (number_of y))
+told_room true b y = refl
+told_room false true y = refl
+told_room false false y = refl
 
-  -- An order's limit that passes the input checks is within the limits.
-  limit_ok : (x : OpeningRequest) → open_checks {F = F} x ≡ None → in_limits (Some x.order.limit) ≡ true
-  limit_ok x h =
-      let later = (refuse_none {F = F} (ltb 4000000000000 x.time) 1 _ h).1 in
-      not-false (price_ok x.order.limit) (refuse_none {F = F} (not (price_ok x.order.limit)) 2 _ later).0
+-- An order's limit that passes the input checks is within the limits.
+limit_ok : (x : OpeningRequest) → open_checks x ≡ None → in_limits (Some x.order.limit) ≡ true
+limit_ok x h =
+    let later = (refuse_none (ltb 4000000000000 x.time) 1 _ h).1 in
+    not-false (price_ok x.order.limit) (refuse_none (not (price_ok x.order.limit)) 2 _ later).0
 
 module _ {P T F Q : Type 0} (w : World P T F Q) (number : ℕ) (p : P) (q : Q) (past : List (Exchange T F)) where
   -- what a call finds in the room after its clock step
@@ -340,14 +333,14 @@ module _ {P T F Q : Type 0} (w : World P T F Q) (number : ℕ) (p : P) (q : Q) (
     current : Current u.current (found_open w p q past c)
     waits : any_waits u.waiting ≡ one_waits w p q past c
 
-  passes : (c : Call T) → input_refusal {F = F} c ≡ None → input_reason c ≡ None
-  passes c h = sym (input_reason_is F c) ∙ ap (option_map refusal_number) h
+  passes : (c : Call T) → input_refusal c ≡ None → input_reason c ≡ None
+  passes c h = sym (input_reason_is c) ∙ h
 
-  finds : (s : RoomState P Q) (c : Call T) (t : ℕ) → Linked w number p q past s → input_refusal {F = F} c ≡ None → given_time c ≡ Some t → Finds c (clocked s t)
+  finds : (s : RoomState P Q) (c : Call T) (t : ℕ) → Linked w number p q past s → input_refusal c ≡ None → given_time c ≡ Some t → Finds c (clocked s t)
   finds s c t h k g =
       let b = due (max s.time t) s.current in
       let u = at_time (max s.time t) s in
-      let e = ended Deadline u in
+      let e = ended (byte "T") u in
       let clock : t ≡ clock_time c = sym (ap (λ (z : Option ℕ). cond (is_some z) 0 (time_or_first (given_time c))) (passes c k) ∙ ap time_or_first g) in
       let time : max s.time t ≡ max (time_then past) (clock_time c) = ap (λ z. max z t) h.time_is ∙ ap (max (time_then past)) clock in
       record {
@@ -360,42 +353,42 @@ module _ {P T F Q : Type 0} (w : World P T F Q) (number : ℕ) (p : P) (q : Q) (
       }
 
   -- The first reason, where the input checks are passed, and where they are not.
-  passed : (c : Call T) → input_refusal {F = F} c ≡ None → first_that_holds (reasons w number p q past c) ≡ first_that_holds (state_reasons w number p q past c)
+  passed : (c : Call T) → input_refusal c ≡ None → first_that_holds (reasons w number p q past c) ≡ first_that_holds (state_reasons w number p q past c)
   passed c k = first_of_two (input_reasons c) (state_reasons w number p q past c) ∙ ap (λ o. option_or o (first_that_holds (state_reasons w number p q past c))) (passes c k)
 
-  refused : (c : Call T) (e : Refusal F) → input_refusal {F = F} c ≡ Some e → Some (refusal_number e) ≡ first_that_holds (reasons w number p q past c)
-  refused c e k =
+  refused : (c : Call T) (n : ℕ) → input_refusal c ≡ Some n → Some n ≡ first_that_holds (reasons w number p q past c)
+  refused c n k =
       sym (first_of_two (input_reasons c) (state_reasons w number p q past c)
-      ∙ ap (λ o. option_or o (first_that_holds (state_reasons w number p q past c))) (sym (input_reason_is F c) ∙ ap (option_map refusal_number) k))
+      ∙ ap (λ o. option_or o (first_that_holds (state_reasons w number p q past c))) (sym (input_reason_is c) ∙ k))
 
   -- A timed call, by its input checks: it is refused by them, or does its business on the room as the clock step left it.
-  timed_told : {Y : Type 0} (s : RoomState P Q) (c : Call T) (f : Y → Answer F) (k : Option (Refusal F)) (t : ℕ) (business : RoomState P Q → RoomState P Q × Result Y (Refusal F))
-      → input_refusal {F = F} c ≡ k → ((y : Y) → refused_number (f y) ≡ None)
+  timed_told : {Y : Type 0} (s : RoomState P Q) (c : Call T) (f : Y → Answer F) (k : Option ℕ) (t : ℕ) (business : RoomState P Q → RoomState P Q × Result Y (RefusalTold F))
+      → input_refusal c ≡ k → ((y : Y) → refused_number (f y) ≡ None)
       → (k ≡ None → told_number (business (clocked s t)).1 ≡ first_that_holds (state_reasons w number p q past c))
       → refused_number (answered f (timed k s t business).1) ≡ first_that_holds (reasons w number p q past c)
   timed_told s c f None t business h g then = told_answer f (business (clocked s t)).1 g ∙ then refl ∙ sym (passed c h)
-  timed_told s c f (Some e) t business h g then = refused c e h
+  timed_told s c f (Some n) t business h g then = refused c n h
 
-  timed_ok : {Y : Type 0} (s : RoomState P Q) (f : Y → Answer F) (k : Option (Refusal F)) (t : ℕ) (business : RoomState P Q → RoomState P Q × Result Y (Refusal F)) (v : Answer F)
-      → answered f (timed k s t business).1 ≡ v → ((e : Refusal F) → Refused e ≡ v → ⊥) → (k ≡ None) × (answered f (business (clocked s t)).1 ≡ v)
+  timed_ok : {Y : Type 0} (s : RoomState P Q) (f : Y → Answer F) (k : Option ℕ) (t : ℕ) (business : RoomState P Q → RoomState P Q × Result Y (RefusalTold F)) (v : Answer F)
+      → answered f (timed k s t business).1 ≡ v → ((e : RefusalTold F) → Refused e ≡ v → ⊥) → (k ≡ None) × (answered f (business (clocked s t)).1 ≡ v)
   timed_ok s f None t business v h g = (refl, h)
-  timed_ok s f (Some e) t business v h g = absurd (g e h)
+  timed_ok s f (Some n) t business v h g = absurd (g (by_number n) h)
 
-  opening_told : (u : RoomState P Q) (x : OpeningRequest) → Finds (Open x) u → open_checks {F = F} x ≡ None
+  opening_told : (u : RoomState P Q) (x : OpeningRequest) → Finds (Open x) u → open_checks x ≡ None
       → told_number (opening w u x.order).1 ≡ first_that_holds (state_reasons w number p q past (Open x))
   opening_told u x h k =
       let o = x.order in
       let now : TurnedQuote = shown_to w p q o.side past in
-      let range : P → ℕ → Result RangePrices (Refusal F) = λ (z : P) (n : ℕ). ranged F o n (permitted o.side o.limit (w.market.shows z)) in
-      told_outcome (opening_range w u o) u (opened_with w u o) (λ _. record { room = u.number; auction = u.opened + 1 })
-      ∙ told_room F u.halted (any_waits u.waiting) (range u.position u.opened)
-      ∙ ap (λ (a : Bool). cond a (Some 12) (cond (any_waits u.waiting) (Some 13) (told_number (range u.position u.opened)))) h.halted_is
-      ∙ ap (λ (b : Bool). cond (halted_then past) (Some 12) (cond b (Some 13) (told_number (range u.position u.opened)))) h.waits
+      let range : P → ℕ → Result RangePrices ℕ = λ (z : P) (n : ℕ). ranged o n (permitted o.side o.limit (w.market.shows z)) in
+      told_outcome F (opening_range w u o) u (opened_with w u o) (λ _. record { room = u.number; auction = u.opened + 1 })
+      ∙ told_room u.halted (any_waits u.waiting) (range u.position u.opened)
+      ∙ ap (λ (a : Bool). cond a (Some 12) (cond (any_waits u.waiting) (Some 13) (number_of (range u.position u.opened)))) h.halted_is
+      ∙ ap (λ (b : Bool). cond (halted_then past) (Some 12) (cond b (Some 13) (number_of (range u.position u.opened)))) h.waits
       ∙ ap (λ (n : Option ℕ). cond (halted_then past) (Some 12) (cond (one_waits w p q past (Open x)) (Some 13) n))
-      (ap (λ (z : P). told_number (range z u.opened)) h.position_is
-      ∙ ap (λ (n : ℕ). told_number (range (market_at w p q past) n)) h.opened_is
-      ∙ ap (λ (b : Bool). told_number (ranged F o (openings past) (cond b (range_faced o.side (turned o.side o.limit) now.floor now.contra) (Err (range_refusal 2))))) (limit_ok F x k)
-      ∙ range_reasons F o (openings past) now.floor now.contra)
+      (ap (λ (z : P). number_of (range z u.opened)) h.position_is
+      ∙ ap (λ (n : ℕ). number_of (range (market_at w p q past) n)) h.opened_is
+      ∙ ap (λ (b : Bool). number_of (ranged o (openings past) (cond b (range_faced o.side (turned o.side o.limit) now.floor now.contra) (Err 2)))) (limit_ok x k)
+      ∙ range_reasons o (openings past) now.floor now.contra)
 
   ticking_told : (u : RoomState P Q) (y : Result (Unit {0}) F) (x : T) → told_number (ticking_by w y u x).1 ≡ first_that_holds ((is_some (fault_in y), 31) ∷ [])
   ticking_told u (Ok k) x = refl
@@ -409,31 +402,31 @@ module _ {P T F Q : Type 0} (w : World P T F Q) (number : ℕ) (p : P) (q : Q) (
     reason_is (Respond x) =
         let u = clocked s x.time in
         timed_told s (Respond x) Stored (respond_checks x) x.time (λ u. responding u x) refl (λ _. refl)
-        (λ k. told_outcome (responding_to u.current x) u (λ a. responded u a x) (λ a. terms_told a (stored_price a x.price) (stored_size a x.size))
-        ∙ responding_told F u.current (found_open w p q past (Respond x)) x (finds s (Respond x) x.time h k refl).current (response_inside F x k).member_inside)
+        (λ k. told_outcome F (responding_to u.current x) u (λ a. responded u a x) (λ a. terms_told a (stored_price a x.price) (stored_size a x.size))
+        ∙ responding_told u.current (found_open w p q past (Respond x)) x (finds s (Respond x) x.time h k refl).current (response_inside x k).member_inside)
     reason_is (Change x) =
         let u = clocked s x.time in
         timed_told s (Change x) Stored (change_checks x) x.time (λ u. changing u x) refl (λ _. refl)
-        (λ k. told_outcome (changing_in u.current x) u (λ a. with_current (with_change a x) u) (λ a. terms_told a (stored_price a x.price) (stored_size a x.size))
-        ∙ changing_told F u.current (found_open w p q past (Change x)) x (finds s (Change x) x.time h k refl).current (change_inside F x k).member_inside)
+        (λ k. told_outcome F (changing_in u.current x) u (λ a. with_current (with_change a x) u) (λ a. terms_told a (stored_price a x.price) (stored_size a x.size))
+        ∙ changing_told u.current (found_open w p q past (Change x)) x (finds s (Change x) x.time h k refl).current (change_inside x k).member_inside)
     reason_is (Withdraw x) =
         let u = clocked s x.time in
         timed_told s (Withdraw x) Stored (withdraw_checks x) x.time (λ u. withdrawing u x) refl (λ _. refl)
-        (λ k. told_outcome (withdrawing_from u.current x) u (λ f. with_current (with_withdrawal f.0 x) u) (λ f. terms_told f.0 f.1.price f.1.size)
-        ∙ withdrawing_told F u.current (found_open w p q past (Withdraw x)) x (finds s (Withdraw x) x.time h k refl).current)
+        (λ k. told_outcome F (withdrawing_from u.current x) u (λ f. with_current (with_withdrawal f.0 x) u) (λ f. terms_told f.0 f.1.price f.1.size)
+        ∙ withdrawing_told u.current (found_open w p q past (Withdraw x)) x (finds s (Withdraw x) x.time h k refl).current)
     reason_is (Tick t x) =
         let u = clocked s t in
         timed_told s (Tick t x) (λ _. Accepted) (time_checks t) t (λ u. ticking w u x) refl (λ _. refl)
         (λ k. ticking_told u (w.market.answer u.position x) x
         ∙ ap (λ (z : P). first_that_holds ((is_some (fault_in (w.market.answer z x)), 31) ∷ [])) (finds s (Tick t x) t h k refl).position_is)
-    reason_is (Halt t) = timed_told s (Halt t) (λ _. Accepted) (time_checks t) t (λ u. (with_halted true (ended Halted u), Ok tt)) refl (λ _. refl) (λ k. refl)
+    reason_is (Halt t) = timed_told s (Halt t) (λ _. Accepted) (time_checks t) t (λ u. (with_halted true (ended (byte "H") u), Ok tt)) refl (λ _. refl) (λ k. refl)
     reason_is (Resume t) = timed_told s (Resume t) (λ _. Accepted) (time_checks t) t (λ u. (with_halted false u, Ok tt)) refl (λ _. refl) (λ k. refl)
     reason_is (Clock t) = timed_told s (Clock t) (λ _. Accepted) (time_checks t) t (λ u. (u, Ok tt)) refl (λ _. refl) (λ k. refl)
     reason_is Look = refl
     reason_is (Collect c n) =
         told_answer (λ k. Collected k (collect_rows w s c n)) (collect_call w s c n).1 (λ _. refl)
-        ∙ told_outcome (collectable s c n) s (λ e. with_waiting (without_number c.auction s.waiting) s) (λ e. record { count = length (fill_rows w e); cause = e.cause })
-        ∙ collect_told F (ltb n 129) (not (eqb c.room s.number)) (is_number c.auction s.current) (numbered c.auction s.waiting)
+        ∙ told_outcome F (collectable s c n) s (λ e. with_waiting (without_number c.auction s.waiting) s) (λ e. record { count = length (fill_rows w e); cause = e.cause })
+        ∙ collect_told (ltb n 129) (not (eqb c.room s.number)) (is_number c.auction s.current) (numbered c.auction s.waiting)
         ∙ ap (λ z. first_that_holds ((ltb n 129, 6) ∷ ((not (eqb c.room z), 42) ∷ ((is_number c.auction s.current, 41) ∷ ((not (is_some (numbered c.auction s.waiting)), 42) ∷ []))))) h.number_is
         ∙ ap (λ (b : Bool). first_that_holds ((ltb n 129, 6) ∷ ((not (eqb c.room number), 42) ∷ ((b, 41) ∷ ((not (is_some (numbered c.auction s.waiting)), 42) ∷ []))))) (h.is_open c.auction)
         ∙ ap (λ (b : Bool). first_that_holds ((ltb n 129, 6) ∷ ((not (eqb c.room number), 42) ∷ ((is_some (going_on (story_of w p q c.auction past)), 41) ∷ ((not b, 42) ∷ []))))) (h.waits c.auction)
@@ -451,12 +444,12 @@ module _ {P T F Q : Type 0} (w : World P T F Q) (number : ℕ) (p : P) (q : Q) (
     kind_is_own (Collect c n) = in_kind_by {T = T} (Collect c n) (λ k. Collected k (collect_rows w s c n)) (collect_call w s c n).1 (λ _. refl)
 
     -- A claim.
-    claim_by : (u : RoomState P Q) (y : Result RangePrices (Refusal F)) (z : RangePrices → RoomState P Q) (k : ClaimNumbers)
+    claim_by : (u : RoomState P Q) (y : Result RangePrices ℕ) (z : RangePrices → RoomState P Q) (k : ClaimNumbers)
         → answered {F = F} Opened (outcome y u z (λ _. record { room = u.number; auction = u.opened + 1 })).1 ≡ Opened k → record { room = u.number; auction = u.opened + 1 } ≡ k
     claim_by u (Ok r) z k e = cc
     claim_by u (Err f) z k e = absurd cc
 
-    not_opened : {X : Type 0} (f : X → Answer F) (y : Result X (Refusal F)) (k : ClaimNumbers) {Z : Type 0} → ((x : X) → opened_number (f x) ≡ None) → answered f y ≡ Opened k → Z
+    not_opened : {X : Type 0} (f : X → Answer F) (y : Result X (RefusalTold F)) (k : ClaimNumbers) {Z : Type 0} → ((x : X) → opened_number (f x) ≡ None) → answered f y ≡ Opened k → Z
     not_opened f y k g e = none_some k.auction (sym (tells_none (λ (a : Answer F). opened_number a) f y g (λ _. refl)) ∙ ap (λ (a : Answer F). opened_number a) e)
 
     claim_is : (c : Call T) (k : ClaimNumbers) → (step w s c).1 ≡ Opened k → k ≡ record { room = number; auction = openings past + 1 }
@@ -478,25 +471,25 @@ module _ {P T F Q : Type 0} (w : World P T F Q) (number : ℕ) (p : P) (q : Q) (
     claim_is (Collect c n) k e = not_opened (λ z. Collected z (collect_rows w s c n)) (collect_call w s c n).1 k (λ _. refl) e
 
     -- Stored terms.
-    not_stored : {X : Type 0} (f : X → Answer F) (y : Result X (Refusal F)) (t : StoredTerms) {Z : Type 0} → ((x : X) → told_terms (f x) ≡ None) → answered f y ≡ Stored t → Z
+    not_stored : {X : Type 0} (f : X → Answer F) (y : Result X (RefusalTold F)) (t : StoredTerms) {Z : Type 0} → ((x : X) → told_terms (f x) ≡ None) → answered f y ≡ Stored t → Z
     not_stored f y t g e = none_some t (sym (tells_none (λ (a : Answer F). told_terms a) f y g (λ _. refl)) ∙ ap (λ (a : Answer F). told_terms a) e)
 
     terms_are : (c : Call T) (t : StoredTerms) → (step w s c).1 ≡ Stored t → terms_due (found_open w p q past c) c ≡ Some t
     terms_are (Respond x) t e =
         let u = clocked s x.time in
         let ok = timed_ok s Stored (respond_checks x) x.time (λ u. responding u x) (Stored t) e (λ f z. cc) in
-        stored_due F (responding_to u.current x) u (λ a. responded u a x) (λ a. terms_told a (stored_price a x.price) (stored_size a x.size)) t _ ok.1
-        (λ b. responding_terms F T u.current (found_open w p q past (Respond x)) x b (finds s (Respond x) x.time h ok.0 refl).current)
+        stored_due (responding_to u.current x) u (λ a. responded u a x) (λ a. terms_told a (stored_price a x.price) (stored_size a x.size)) t _ ok.1
+        (λ b. responding_terms T u.current (found_open w p q past (Respond x)) x b (finds s (Respond x) x.time h ok.0 refl).current)
     terms_are (Change x) t e =
         let u = clocked s x.time in
         let ok = timed_ok s Stored (change_checks x) x.time (λ u. changing u x) (Stored t) e (λ f z. cc) in
-        stored_due F (changing_in u.current x) u (λ a. with_current (with_change a x) u) (λ a. terms_told a (stored_price a x.price) (stored_size a x.size)) t _ ok.1
-        (λ b. changing_terms F T u.current (found_open w p q past (Change x)) x b (finds s (Change x) x.time h ok.0 refl).current)
+        stored_due (changing_in u.current x) u (λ a. with_current (with_change a x) u) (λ a. terms_told a (stored_price a x.price) (stored_size a x.size)) t _ ok.1
+        (λ b. changing_terms T u.current (found_open w p q past (Change x)) x b (finds s (Change x) x.time h ok.0 refl).current)
     terms_are (Withdraw x) t e =
         let u = clocked s x.time in
         let ok = timed_ok s Stored (withdraw_checks x) x.time (λ u. withdrawing u x) (Stored t) e (λ f z. cc) in
-        stored_due F (withdrawing_from u.current x) u (λ f. with_current (with_withdrawal f.0 x) u) (λ f. terms_told f.0 f.1.price f.1.size) t _ ok.1
-        (λ b. withdrawing_terms F T u.current (found_open w p q past (Withdraw x)) x b (finds s (Withdraw x) x.time h ok.0 refl).current)
+        stored_due (withdrawing_from u.current x) u (λ f. with_current (with_withdrawal f.0 x) u) (λ f. terms_told f.0 f.1.price f.1.size) t _ ok.1
+        (λ b. withdrawing_terms T u.current (found_open w p q past (Withdraw x)) x b (finds s (Withdraw x) x.time h ok.0 refl).current)
     terms_are (Open x) t e = not_stored Opened (open_call w s x).1 t (λ _. refl) e
     terms_are (Tick n x) t e = not_stored (λ _. Accepted) (tick_call w s n x).1 t (λ _. refl) e
     terms_are (Halt n) t e = not_stored (λ _. Accepted) (halt_call s n).1 t (λ _. refl) e
@@ -510,14 +503,14 @@ module _ {P T F Q : Type 0} (w : World P T F Q) (number : ℕ) (p : P) (q : Q) (
     ticking_fault u (Ok k) x f e = none_some f e
     ticking_fault u (Err g) x f e = e
 
-    timed_fault : (k : Option (Refusal F)) (t : ℕ) (x : T) (f : F) → k ≡ None → fault_in (w.market.answer (clocked s t).position x) ≡ Some f
+    timed_fault : (k : Option ℕ) (t : ℕ) (x : T) (f : F) → k ≡ None → fault_in (w.market.answer (clocked s t).position x) ≡ Some f
         → fault_told (answered {F = F} (λ _. Accepted) (timed k s t (λ u. ticking w u x)).1) ≡ Some f
     timed_fault None t x f k e = ticking_fault (clocked s t) (w.market.answer (clocked s t).position x) x f e
     timed_fault (Some r) t x f k e = none_some r (sym k)
 
     fault_is : (c : Call T) (f : F) → input_reason c ≡ None → market_fault w p q past c ≡ Some f → fault_told (step w s c).1 ≡ Some f
     fault_is (Tick t x) f k e =
-        let none = map_none refusal_number (time_checks {F = F} t) (input_reason_is F {T = T} (Tick t x) ∙ k) in
+        let none : time_checks t ≡ None = input_reason_is {T = T} (Tick t x) ∙ k in
         timed_fault (time_checks t) t x f none (ap (λ (z : P). fault_in (w.market.answer z x)) (finds s (Tick t x) t h none refl).position_is ∙ e)
     fault_is (Open x) f k e = none_some f e
     fault_is (Respond x) f k e = none_some f e

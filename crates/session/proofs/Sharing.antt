@@ -9,8 +9,7 @@ use Rattle.allocation.specs.FillLaws.{Told}
 use Rattle.allocation.specs.OnlyRows.{LawfulRows}
 use Rattle.allocation.specs.Rankings.{by_key}
 use Rattle.room.specs.declared.answers.ClaimNumbers.{ClaimNumbers}
-use Rattle.room.specs.declared.answers.Collection.{Collection}
-use Rattle.room.specs.Collecting.{fill_rows}
+use Rattle.room.specs.Collecting.{CollectionTold, fill_rows}
 use Rattle.room.specs.State.{OpenAuction, EndedAuction, RoomState, new_room, numbered}
 use Rattle.room.specs.World.{World, Terms}
 use Rattle.session.specs.declared.calls.Call.{Call}
@@ -48,7 +47,7 @@ module _ {P T F Q : Type 0} (w : World P T F Q) (p : P) (q : Q) where
 
   module _ (terms : Terms w) (number : ℕ) (past : List (Moment P T F Q)) (s : RoomState P Q) (c : Call T) (h : Holds w terms.drawn_within number p q past s) where
     -- what an accepted collecting answers
-    shared_by : CollectedHere w (moment w s c) ⊎ (is_collected (step w s c).1 ≡ false) → (room auction rows : ℕ) (k : Collection) (fs : List FillRow)
+    shared_by : CollectedHere w (moment w s c) ⊎ (is_collected (step w s c).1 ≡ false) → (room auction rows : ℕ) (k : CollectionTold) (fs : List FillRow)
         → c ≡ Collect (record { room = room; auction = auction }) rows → (step w s c).1 ≡ Collected k fs → SharedLawfully w p q auction past k fs
     shared_by (inl d) room auction long k fs e a =
         let x = d.auction in
@@ -64,7 +63,7 @@ module _ {P T F Q : Type 0} (w : World P T F Q) (p : P) (q : Q) where
           laws =
               let f = over.story in
               subst (LawfulRows f.opening.order.side f.opening.order.size f.floor (guarantee_of f.opening) f.opening.range.initiating w.ahead f.stood) wrote (told_lawful terms f x over.was over.as_it_was over.apart over.matches);
-          as_many_as_told = ap length (sym wrote) ∙ ap (λ (z : Collection). z.count) told;
+          as_many_as_told = ap length (sym wrote) ∙ ap (λ (z : CollectionTold). z.count) told;
         }
     shared_by (inr none) room auction long k fs e a = true_false (sym (ap (λ (z : Answer F). is_collected z) a) ∙ none)
 

@@ -12,18 +12,18 @@ use Rattle.session.specs.Told.{told}
 abbrev pub day_start : {M R S P T Q : Type 0} → (M → P) → (S → Q) → Day M R S T → Start P Q
 day_start position source d = record { number = d.number; market = position d.market; source = source d.source; purse = [] }
 
-module _ {M R S P T F Q : Type 0} where
+module _ {M R S P T D F Q : Type 0} (fault : D → F) where
   -- What was handed in and what came back.
-  abbrev pub day_carried : (M → P) → (S → Q) → Day M R S T → DayDone M R S F → Carried P T F Q
+  abbrev pub day_carried : (M → P) → (S → Q) → Day M R S T → DayDone M R S D → Carried P T F Q
   day_carried position source d done = record {
     start = day_start position source d;
     calls = vec_items d.calls;
-    answers = map told (vec_items done.answers);
+    answers = map (told fault) (vec_items done.answers);
     room = state_of position source done.desk.session.room;
     claims = done.desk.session.purse.numbers;
   }
 
-  pub record DayAsModelled (w : World P T F Q) (position : M → P) (source : S → Q) (d : Day M R S T) (done : DayDone M R S F) : Type 0 where
+  pub record DayAsModelled (w : World P T F Q) (position : M → P) (source : S → Q) (d : Day M R S T) (done : DayDone M R S D) : Type 0 where
     pub promise : WholePromise w (day_carried position source d done)
     -- The promise holds on, of the calls and of those with which the desk is closed, if it is closed next.
     pub when_closed : WholePromise w (closed_at_once w (day_carried position source d done))

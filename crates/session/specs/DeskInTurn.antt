@@ -24,7 +24,7 @@ abbrev pub last_desk : {M R S T F : Type 0} → Desk M R S → List (DeskCall M 
 last_desk d [] = d
 last_desk d (c ∷ cs) = last_desk c.after cs
 
-module _ {M R S P T F Q : Type 0} (world : R → World P T F Q) (position : M → P) (source : S → Q) where
+module _ {M R S P T D F Q : Type 0} (world : R → World P T F Q) (position : M → P) (source : S → Q) (fault : D → F) where
   abbrev pub room_at : Desk M R S → RoomState P Q
   room_at d = state_of position source d.session.room
 
@@ -32,28 +32,28 @@ module _ {M R S P T F Q : Type 0} (world : R → World P T F Q) (position : M �
   world_at d = world d.session.room.ranking
 
   -- The clauses of `call`, where it answers.
-  pub record DeskByContract (c : DeskCall M R S T F) : Type 0 where
+  pub record DeskByContract (c : DeskCall M R S T D) : Type 0 where
     pub state : room_at c.after ≡ desk_after (world_at c.before) (room_at c.before) c.call
-    pub answer : told c.answer ≡ desk_answer (world_at c.before) (room_at c.before) c.call
+    pub answer : told fault c.answer ≡ desk_answer (world_at c.before) (room_at c.before) c.call
     pub ranking : c.after.session.room.ranking ≡ c.before.session.room.ranking
 
   -- Calls one after another, from a desk on: each finds the room that the one before it left.
-  abbrev pub DeskInTurn : Desk M R S → List (DeskCall M R S T F) → Type 0
+  abbrev pub DeskInTurn : Desk M R S → List (DeskCall M R S T D) → Type 0
   DeskInTurn d [] = Unit {0}
   DeskInTurn d (c ∷ cs) = (c.before.session.room ≡ d.session.room) × DeskByContract c × DeskInTurn c.after cs
 
   -- The calls with their answers, and the room and the claims that the desk then has. A new desk has no claim.
-  abbrev pub desk_carried : ℕ → P → Q → Desk M R S → List (DeskCall M R S T F) → Carried P T F Q
+  abbrev pub desk_carried : ℕ → P → Q → Desk M R S → List (DeskCall M R S T D) → Carried P T F Q
   desk_carried number p q d cs = record {
     start = record { number = number; market = p; source = q; purse = [] };
-    calls = map (λ (c : DeskCall M R S T F). c.call) cs;
-    answers = map (λ (c : DeskCall M R S T F). told c.answer) cs;
+    calls = map (λ (c : DeskCall M R S T D). c.call) cs;
+    answers = map (λ (c : DeskCall M R S T D). told fault c.answer) cs;
     room = room_at (last_desk d cs);
     claims = (last_desk d cs).session.purse.numbers;
   }
 
   -- The whole promise holds of the calls; and on, where the desk is then closed as the contract of `close` says.
-  pub record DeskPromise (w : World P T F Q) (number : ℕ) (p : P) (q : Q) (d : Desk M R S) (cs : List (DeskCall M R S T F)) : Type 0 where
+  pub record DeskPromise (w : World P T F Q) (number : ℕ) (p : P) (q : Q) (d : Desk M R S) (cs : List (DeskCall M R S T D)) : Type 0 where
     pub promise : WholePromise w (desk_carried number p q d cs)
     pub when_closed : (ts : List ToldAtClose) (room : RoomState P Q) → ClosedByCalls (world_at (last_desk d cs)) (room_at (last_desk d cs)) ts room
         → WholePromise w (with_close (desk_carried number p q d cs) ts room)
@@ -61,5 +61,5 @@ module _ {M R S P T F Q : Type 0} (world : R → World P T F Q) (position : M �
   -- All calls that are made one after another at a desk from its making.
   abbrev pub DeskCallsKeepThePromise : Type 0
   DeskCallsKeepThePromise =
-      (number : ℕ) (p : P) (q : Q) (d : Desk M R S) (cs : List (DeskCall M R S T F))
+      (number : ℕ) (p : P) (q : Q) (d : Desk M R S) (cs : List (DeskCall M R S T D))
       → room_at d ≡ new_room number p q → DeskInTurn d cs → DeskPromise (world_at d) number p q d cs

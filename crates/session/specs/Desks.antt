@@ -4,9 +4,9 @@ use Rattle.std.specs.Prelude.{ℕ, List, [], ◌∷◌, length, map, take, Some,
 use Rattle.std.specs.Option.{option_map}
 use Rattle.allocation.specs.declared.fill.FillRow.{FillRow}
 use Rattle.room.specs.declared.answers.ClaimNumbers.{ClaimNumbers}
-use Rattle.room.specs.declared.answers.Collection.{Collection}
-use Rattle.room.specs.Collecting.{fill_rows}
+use Rattle.room.specs.Collecting.{CollectionTold, fill_rows}
 use Rattle.room.specs.Halts.{halt_call}
+use Rattle.room.specs.Rooms.{collection_told}
 use Rattle.room.specs.State.{EndedAuction, RoomState, with_waiting}
 use Rattle.room.specs.World.{World}
 use Rattle.session.specs.declared.calls.Call.{Call}
@@ -19,14 +19,14 @@ use Rattle.session.specs.Claims.{claim_to, claims_to}
 abbrev pub at_desk : {P Q : Type 0} → RoomState P Q → Session P Q
 at_desk s = session_of s (claims_to s)
 
--- What is told of an auction that was collected: the numbers of its claim, the row count and the cause, and its rows.
+-- What is told of an auction that was collected: the numbers of its claim, the row count and the letter of the cause, and its rows.
 pub record ToldAtClose : Type 0 where
   pub claim : ClaimNumbers
-  pub collection : Collection
+  pub collection : CollectionTold
   pub rows : List FillRow
 
 abbrev pub closed_told : ClosedAuction → ToldAtClose
-closed_told c = record { claim = c.claim; collection = c.collection; rows = take c.collection.count c.rows }
+closed_told c = record { claim = c.claim; collection = collection_told c.collection; rows = take c.collection.count c.rows }
 
 abbrev pub listed_told : Option ClosedAuction → Option ClosedAuction → List ToldAtClose
 listed_told first second = given (option_map closed_told first ∷ (option_map closed_told second ∷ []))

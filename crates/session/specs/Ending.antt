@@ -1,7 +1,6 @@
 -- When an auction ends: within a second, not by time too soon, never without waiting to be collected, and for its causes
 -- and no others.
 use Rattle.std.specs.Prelude.{◌≡◌, ℕ, ◌+◌, ◌≤◌, Bool, true, false, cond, ◌&&◌, List, [], ◌∷◌, length, is_some, Some, None, Option, ◌==◌, nat_le}
-use Rattle.allocation.specs.declared.cause.EndCause.{EndCause}
 use Rattle.room.specs.State.{RoomState, numbered}
 use Rattle.room.specs.World.{World}
 use Rattle.session.specs.declared.calls.Call.{Call}
@@ -11,8 +10,8 @@ use Rattle.session.specs.Inputs.{input_reason}
 use Rattle.session.specs.Moments.{is_open, ends_at, ends_by_clock, times_ended}
 use Rattle.session.specs.Runs.{Answer, Collected, Moment, given_time, step, run}
 
--- The cause that an accepted collecting tells.
-abbrev pub told_cause : {F : Type 0} → Answer F → Option EndCause
+-- The letter of the cause that an accepted collecting tells.
+abbrev pub told_cause : {F : Type 0} → Answer F → Option ℕ
 told_cause (Collected k fs) = Some k.cause
 told_cause _ = None
 

@@ -4,13 +4,11 @@
 use Rattle.std.specs.Prelude.{ℕ, zero, suc, ◌+◌, max, Bool, true, false, cond, not, ◌&&◌, ◌||◌, List, [], ◌∷◌, ◌++◌, map, length, ℤ, is_some, Some, None, Ok, Err, Option, Result, ◌==◌, int_lt, nat_le}
 use Rattle.std.specs.Int.{int_max}
 use Rattle.std.specs.Option.{option_map}
+use Rattle.std.specs.Str.{byte}
 use Rattle.market.specs.declared.range.TurnedQuote.{TurnedQuote}
-use Rattle.market.specs.declared.refusal.RangeRefusal.{RangeRefusal}
 use Rattle.market.specs.declared.side.Side.{Side}
 use Rattle.market.specs.Range.{RangePrices, permitted, turned_quote}
 use Rattle.market.specs.Turned.{turned}
-use Rattle.allocation.specs.declared.cause.EndCause.{EndCause}
-use Rattle.allocation.specs.declared.cause.EndCause.TheVariants.{NextAuction, FloorAboveInitiating, FloorAboveResponse, FloorAboveStop, PlainBelowFloor, ContraBelowGuarantee, Halt as Halted, Deadline}
 use Rattle.allocation.specs.declared.order.Guarantee.{Guarantee}
 use Rattle.allocation.specs.declared.order.GuaranteeKind.{GuaranteeKind}
 use Rattle.allocation.specs.declared.order.GuaranteeKind.TheVariants.{SingleStop, AutoMatchLimit}
@@ -176,13 +174,13 @@ abbrev pub deadline_of : OpeningFacts → ℕ
 deadline_of f = f.time + f.interval
 
 -- The story of an auction so far: how it was opened; its floor; the responses that stand, each as last stored; the members
--- of the responses and changes that it has accepted, the last first; and, once it has ended, the cause.
+-- of the responses and changes that it has accepted, the last first; and, once it has ended, the letter of the cause.
 pub record Story : Type 0 where
   pub opening : OpeningFacts
   pub floor : ℤ
   pub stood : List Told
   pub storing : List ℕ
-  pub ended : Option EndCause
+  pub ended : Option ℕ
 
 -- An arrival is how many responses and changes the auction has accepted with the one that arrives.
 abbrev pub next_arrival : Story → ℕ
@@ -192,12 +190,12 @@ next_arrival s = length s.storing + 1
 abbrev pub new_story : OpeningFacts → Story
 new_story f = record { opening = f; floor = f.range.floor; stood = []; storing = []; ended = None }
 
-abbrev pub story_by : PairedOrder → Result RangePrices RangeRefusal → ℕ → ℕ → Option Story
+abbrev pub story_by : PairedOrder → Result RangePrices ℕ → ℕ → ℕ → Option Story
 story_by o (Ok r) time interval = Some (new_story (record { order = o; range = r; time = time; interval = interval }))
 story_by o (Err e) time interval = None
 
--- The cause for which it ended, if it has.
-abbrev pub cause_told : Option Story → Option EndCause
+-- The letter of the cause for which it ended, if it has.
+abbrev pub cause_told : Option Story → Option ℕ
 cause_told None = None
 cause_told (Some s) = s.ended
 
@@ -319,19 +317,19 @@ module _ {P T F Q : Type 0} (w : World P T F Q) (p : P) (q : Q) where
     abbrev pub contra_below_guarantee : Bool
     contra_below_guarantee = ticked_at x && is_below (shown_now s (x ∷ past)).contra (guarantee_of s.opening).price
 
-    -- The first cause that a call brings to an open auction: T comes first, since every timed call begins with the clock
+    -- The letter of the first cause that a call brings to an open auction: T comes first, since every timed call begins with the clock
     -- step; at a tick B, C, D and F are tried in this order; A, E and H are of other calls.
-    abbrev pub first_cause : Option EndCause
+    abbrev pub first_cause : Option ℕ
     first_cause =
         first_that_holds
-        ((deadline_reached s (x ∷ past), Deadline)
-        ∷ ((another_opened x, NextAuction)
-        ∷ ((floor_above_initiating, FloorAboveInitiating)
-        ∷ ((floor_above_response, FloorAboveResponse)
-        ∷ ((floor_above_stop, FloorAboveStop)
-        ∷ ((contra_below_guarantee, ContraBelowGuarantee)
-        ∷ ((plain_response_below_floor s x, PlainBelowFloor)
-        ∷ ((halt_accepted x, Halted)
+        ((deadline_reached s (x ∷ past), byte "T")
+        ∷ ((another_opened x, byte "A")
+        ∷ ((floor_above_initiating, byte "B")
+        ∷ ((floor_above_response, byte "C")
+        ∷ ((floor_above_stop, byte "D")
+        ∷ ((contra_below_guarantee, byte "F")
+        ∷ ((plain_response_below_floor s x, byte "E")
+        ∷ ((halt_accepted x, byte "H")
         ∷ []))))))))
 
     -- The floor after a call: what an accepted tick that did not end the auction shows there, if it shows a price.
@@ -371,15 +369,15 @@ module _ {P T F Q : Type 0} (w : World P T F Q) (p : P) (q : Q) where
   story_of n (x ∷ past) = cond (opens n x) (story_opened (order_in x.call) past (time_then (x ∷ past))) (option_map (story_after past x) (story_of n past))
 
   -- The cause that a call brings to an auction that was open,
-  abbrev pub cause_by : Option Story → List (Exchange T F) → Exchange T F → Option EndCause
+  abbrev pub cause_by : Option Story → List (Exchange T F) → Exchange T F → Option ℕ
   cause_by None past x = None
   cause_by (Some s) past x = first_cause past x s
 
-  abbrev pub cause_at : ℕ → List (Exchange T F) → Exchange T F → Option EndCause
+  abbrev pub cause_at : ℕ → List (Exchange T F) → Exchange T F → Option ℕ
   cause_at n past x = cause_by (story_of n past) past x
 
   -- and the one for which it ended.
-  abbrev pub cause_of : ℕ → List (Exchange T F) → Option EndCause
+  abbrev pub cause_of : ℕ → List (Exchange T F) → Option ℕ
   cause_of n past = cause_told (story_of n past)
 
   -- It has ended.

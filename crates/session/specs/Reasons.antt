@@ -11,11 +11,9 @@ use Rattle.allocation.specs.declared.order.PairedOrder.{PairedOrder}
 use Rattle.allocation.specs.FillLaws.{Told}
 use Rattle.room.specs.declared.answers.ClaimNumbers.{ClaimNumbers}
 use Rattle.room.specs.declared.answers.StoredTerms.{StoredTerms}
-use Rattle.room.specs.declared.refusal.Refusal.TheVariants.{MarketFault}
 use Rattle.room.specs.declared.requests.ChangeRequest.{ChangeRequest}
 use Rattle.room.specs.declared.requests.ResponseRequest.{ResponseRequest}
 use Rattle.room.specs.declared.requests.WithdrawRequest.{WithdrawRequest}
-use Rattle.room.specs.Refusals.{refusal_number}
 use Rattle.room.specs.World.{World}
 use Rattle.session.specs.declared.calls.Call.{Call}
 use Rattle.session.specs.declared.calls.Call.TheVariants.{Open, Respond, Change, Withdraw, Tick, Halt, Resume, Clock, Look, Collect}
@@ -25,12 +23,12 @@ use Rattle.session.specs.Runs.{Answer, Opened, Stored, Accepted, Looked, Collect
 
 -- The number of the refusal that a call was told.
 abbrev pub refused_number : {F : Type 0} → Answer F → Option ℕ
-refused_number (Refused e) = Some (refusal_number e)
+refused_number (Refused e) = Some e.number
 refused_number _ = None
 
 -- The market's fault that a refusal holds.
 abbrev pub fault_told : {F : Type 0} → Answer F → Option F
-fault_told (Refused (MarketFault f)) = Some f
+fault_told (Refused e) = e.fault
 fault_told _ = None
 
 -- An answer is a refusal, or of the kind that the call has: a claim, a stored price and size, acceptance, a view, rows.

@@ -2,16 +2,15 @@
 use Rattle.std.specs.Prelude.{ℕ, List, [], ◌∷◌, Some, None, Ok, Err, Option, Result}
 use Rattle.allocation.specs.declared.fill.FillRow.{FillRow}
 use Rattle.room.specs.declared.answers.ClaimNumbers.{ClaimNumbers}
-use Rattle.room.specs.declared.answers.Collection.{Collection}
 use Rattle.room.specs.declared.answers.StoredTerms.{StoredTerms}
 use Rattle.room.specs.declared.answers.View.{View}
-use Rattle.room.specs.declared.refusal.Refusal.{Refusal}
 use Rattle.room.specs.Checks.{open_checks, respond_checks, change_checks, withdraw_checks, time_checks, collect_checks}
 use Rattle.room.specs.Clock.{clocked}
-use Rattle.room.specs.Collecting.{collect_call, collect_rows}
+use Rattle.room.specs.Collecting.{CollectionTold, collect_call, collect_rows}
 use Rattle.room.specs.Halts.{halt_call, resume_call, clock_call}
 use Rattle.room.specs.Looks.{look_call}
 use Rattle.room.specs.Openings.{open_call}
+use Rattle.room.specs.Refusals.{RefusalTold}
 use Rattle.room.specs.Responses.{respond_call, change_call, withdraw_call}
 use Rattle.room.specs.State.{RoomState, new_room}
 use Rattle.room.specs.Ticks.{tick_call}
@@ -20,22 +19,22 @@ use Rattle.session.specs.declared.calls.Call.{Call}
 use Rattle.session.specs.declared.calls.Call.TheVariants.{Open, Respond, Change, Withdraw, Tick, Halt, Resume, Clock, Look, Collect}
 
 -- What a call is answered: an opening a claim; a response, a change and a withdrawal the stored price and size; a tick, a
--- halt, a resume and a clock call only acceptance; a look what everybody may know; a collecting the row count, the cause
--- and the rows that it wrote; and any but a look a refusal.
+-- halt, a resume and a clock call only acceptance; a look what everybody may know; a collecting the row count, the letter of
+-- the cause and the rows that it wrote; and any but a look a refusal, by its number and the market's fault that it holds.
 pub data Answer (F : Type 0) : Type 0 where
   Opened : ClaimNumbers → Answer F
   Stored : StoredTerms → Answer F
   Accepted : Answer F
   Looked : View → Answer F
-  Collected : Collection → List FillRow → Answer F
-  Refused : Refusal F → Answer F
+  Collected : CollectionTold → List FillRow → Answer F
+  Refused : RefusalTold F → Answer F
 
 -- A refusal is answered as such, and what is accepted in its own way.
-abbrev pub answered : {X F : Type 0} → (X → Answer F) → Result X (Refusal F) → Answer F
+abbrev pub answered : {X F : Type 0} → (X → Answer F) → Result X (RefusalTold F) → Answer F
 answered f (Ok x) = f x
 answered f (Err e) = Refused e
 
-abbrev pub answering : {S X F : Type 0} → (X → Answer F) → S × Result X (Refusal F) → S × Answer F
+abbrev pub answering : {S X F : Type 0} → (X → Answer F) → S × Result X (RefusalTold F) → S × Answer F
 answering f y = (y.0, answered f y.1)
 
 -- The time that a call carries: every call but a look and a collecting has one.
@@ -51,8 +50,8 @@ given_time (Clock t) = Some t
 given_time Look = None
 given_time (Collect c n) = None
 
--- What the input checks of a call refuse.
-abbrev pub input_refusal : {T F : Type 0} → Call T → Option (Refusal F)
+-- The number of the refusal that the input checks of a call come to.
+abbrev pub input_refusal : {T : Type 0} → Call T → Option ℕ
 input_refusal (Open x) = open_checks x
 input_refusal (Respond x) = respond_checks x
 input_refusal (Change x) = change_checks x
@@ -65,7 +64,7 @@ input_refusal Look = None
 input_refusal (Collect c n) = collect_checks n
 
 -- The room after the clock step of a call: a timed call that passes its input checks has one.
-abbrev pub clock_stepped : {P Q R : Type 0} → Option R → Option ℕ → RoomState P Q → RoomState P Q
+abbrev pub clock_stepped : {P Q : Type 0} → Option ℕ → Option ℕ → RoomState P Q → RoomState P Q
 clock_stepped (Some e) t s = s
 clock_stepped None None s = s
 clock_stepped None (Some t) s = clocked s t
@@ -96,7 +95,7 @@ module _ {P T F Q : Type 0} (w : World P T F Q) where
   moment s c = record {
     call = c;
     before = s;
-    stepped = clock_stepped (input_refusal {F = F} c) (given_time c) s;
+    stepped = clock_stepped (input_refusal c) (given_time c) s;
     after = (step s c).0;
     answer = (step s c).1;
   }

@@ -3,7 +3,7 @@
 use Rattle.std.specs.Prelude.{◌≡◌, ℕ, List, [], length, Some}
 use Rattle.allocation.specs.declared.fill.FillRow.{FillRow}
 use Rattle.allocation.specs.OnlyRows.{LawfulRows}
-use Rattle.room.specs.declared.answers.Collection.{Collection}
+use Rattle.room.specs.Collecting.{CollectionTold}
 use Rattle.room.specs.World.{World}
 use Rattle.session.specs.declared.calls.Call.{Call}
 use Rattle.session.specs.declared.calls.Call.TheVariants.{Collect}
@@ -14,7 +14,7 @@ use Rattle.session.specs.Runs.{Collected, Moment, run}
 -- (the ending tick not counted) and its initiating price, and keep the other laws of a fill list; the contra takes what its
 -- guarantee, as it was stored, lets it take; they stand in their order, by the room's ranking and the arrivals; no other
 -- rows keep these laws; and the collecting wrote as many rows as it told.
-pub record SharedLawfully {P T F Q : Type 0} (w : World P T F Q) (p : P) (q : Q) (n : ℕ) (past : List (Moment P T F Q)) (k : Collection) (rows : List FillRow) : Type 0 where
+pub record SharedLawfully {P T F Q : Type 0} (w : World P T F Q) (p : P) (q : Q) (n : ℕ) (past : List (Moment P T F Q)) (k : CollectionTold) (rows : List FillRow) : Type 0 where
   pub story : Story
   pub is_its_story : story_of w p q n (history_of past) ≡ Some story
   pub laws : LawfulRows story.opening.order.side story.opening.order.size story.floor (guarantee_of story.opening) story.opening.range.initiating w.ahead story.stood rows
@@ -22,7 +22,7 @@ pub record SharedLawfully {P T F Q : Type 0} (w : World P T F Q) (p : P) (q : Q)
 
 abbrev pub CollectedLawfully : {P T F Q : Type 0} → World P T F Q → P → Q → List (Moment P T F Q) → Moment P T F Q → Type 0
 CollectedLawfully w p q past m =
-    (room auction length : ℕ) (k : Collection) (rows : List FillRow)
+    (room auction length : ℕ) (k : CollectionTold) (rows : List FillRow)
     → m.call ≡ Collect (record { room = room; auction = auction }) length → m.answer ≡ Collected k rows
     → SharedLawfully w p q auction past k rows
 

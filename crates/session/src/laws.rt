@@ -17,11 +17,11 @@ pub fn run_laws_hold<M: Market, S: IntervalSource, R: Ranking>(ranking: &R)
 /// Whoever calls a room's methods has the laws: calls that are made one after another from the room's making on, each as the
 /// contract of its method says, are a run, and every law of a run holds of them.
 pub fn calls_in_turn_are_a_run<M: Market, S: IntervalSource, R: Ranking>()
-    ensures { CallsInTurnAreARun (λ ranking. world_of M.Market.meaning S.IntervalSource.meaning (R.Ranking.ahead ranking)) M.Market.position S.IntervalSource.position }
+    ensures { CallsInTurnAreARun (λ ranking. world_of M.Market.meaning S.IntervalSource.meaning (R.Ranking.ahead ranking)) M.Market.position S.IntervalSource.position M.Market.told }
 {}
 
 /// Whoever makes calls at a desk has the whole promise of a run: of the calls from the desk's making on, and of these and its
 /// closing.
 pub fn desk_calls_keep_the_promise<M: Market, S: IntervalSource, R: Ranking>()
-    ensures { DeskCallsKeepThePromise (λ ranking. world_of M.Market.meaning S.IntervalSource.meaning (R.Ranking.ahead ranking)) M.Market.position S.IntervalSource.position }
+    ensures { DeskCallsKeepThePromise (λ ranking. world_of M.Market.meaning S.IntervalSource.meaning (R.Ranking.ahead ranking)) M.Market.position S.IntervalSource.position M.Market.told }
 {}

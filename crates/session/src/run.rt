@@ -51,7 +51,7 @@ pub fn run<M: Market, R: Ranking, S: IntervalSource>(
 ) -> Result<Finished<M, R, S, M::Fault>, Handed<M, R, S, M::Tick>>
 where
     M::Tick: Drop,
-    ensures { MatchResult result (λ f. RunAsModelled (world_of M.Market.meaning S.IntervalSource.meaning (R.Ranking.ahead handed.ranking)) M.Market.position S.IntervalSource.position handed f) (λ h. HandedBack handed h) }
+    ensures { MatchResult result (λ f. RunAsModelled M.Market.told (world_of M.Market.meaning S.IntervalSource.meaning (R.Ranking.ahead handed.ranking)) M.Market.position S.IntervalSource.position handed f) (λ h. HandedBack handed h) }
 {
     let mut handed = handed;
     // No `?`: the error is what was handed in.

@@ -46,7 +46,7 @@ impl<M: Market, R: Ranking, S: IntervalSource> Session<M, R, S> {
     // Opens an auction and keeps the claim.
     fn open(&mut self, request: OpeningRequest) -> Result<Answer<M::Fault>, Refusal<M::Fault>>
         requires { HasMemoryFor {T = M.Tick} self.old (Open request ∷ []) }
-        ensures { MadeAsModelled (session_world M.Market.meaning S.IntervalSource.meaning R.Ranking.ahead self.old) M.Market.position S.IntervalSource.position self.old self.new (told_result result) (Open request) }
+        ensures { MadeAsModelled (session_world M.Market.meaning S.IntervalSource.meaning R.Ranking.ahead self.old) M.Market.position S.IntervalSource.position self.old self.new (told_result M.Market.told result) (Open request) }
     {
         let claim = self.room.open(request)?;
         let numbers = claim.numbers();
@@ -61,7 +61,7 @@ impl<M: Market, R: Ranking, S: IntervalSource> Session<M, R, S> {
         rows: usize,
     ) -> Result<Answer<M::Fault>, Refusal<M::Fault>>
         requires { HasMemoryFor {T = M.Tick} self.old (Collect numbers rows ∷ []) }
-        ensures { MadeAsModelled (session_world M.Market.meaning S.IntervalSource.meaning R.Ranking.ahead self.old) M.Market.position S.IntervalSource.position self.old self.new (told_result result) (Collect numbers rows) }
+        ensures { MadeAsModelled (session_world M.Market.meaning S.IntervalSource.meaning R.Ranking.ahead self.old) M.Market.position S.IntervalSource.position self.old self.new (told_result M.Market.told result) (Collect numbers rows) }
     {
         let Some(taken) = self.purse.take(&numbers) else {
             return Ok(Answer::NoClaim);
@@ -87,7 +87,7 @@ impl<M: Market, R: Ranking, S: IntervalSource> Session<M, R, S> {
     where
         M::Tick: Drop,
         requires { HasMemoryFor self.old (call ∷ []) }
-        ensures { MadeAsModelled (session_world M.Market.meaning S.IntervalSource.meaning R.Ranking.ahead self.old) M.Market.position S.IntervalSource.position self.old self.new (told_result result) call }
+        ensures { MadeAsModelled (session_world M.Market.meaning S.IntervalSource.meaning R.Ranking.ahead self.old) M.Market.position S.IntervalSource.position self.old self.new (told_result M.Market.told result) call }
     {
         match call {
             Call::Open(request) => self.open(request),
@@ -120,7 +120,7 @@ impl<M: Market, R: Ranking, S: IntervalSource> Session<M, R, S> {
     where
         M::Tick: Drop,
         requires { HasMemoryFor self.old (call ∷ []) }
-        ensures { MadeAsModelled (session_world M.Market.meaning S.IntervalSource.meaning R.Ranking.ahead self.old) M.Market.position S.IntervalSource.position self.old self.new (told result) call }
+        ensures { MadeAsModelled (session_world M.Market.meaning S.IntervalSource.meaning R.Ranking.ahead self.old) M.Market.position S.IntervalSource.position self.old self.new (told M.Market.told result) call }
     {
         self.try_call(call).unwrap_or_else(Answer::Refused)
     }
@@ -131,7 +131,7 @@ impl<M: Market, R: Ranking, S: IntervalSource> Session<M, R, S> {
         M::Tick: Drop,
         requires memory { HasMemoryFor self.old calls.items }
         requires answers { vec_len answers.old + vec_len calls ≤ vec_capacity answers.old }
-        ensures answers { map told answers.new.items ≡ map told answers.old.items ++ session_answers (session_world M.Market.meaning S.IntervalSource.meaning R.Ranking.ahead self.old) (session_now M.Market.position S.IntervalSource.position self.old) calls.items }
+        ensures answers { map (told M.Market.told) answers.new.items ≡ map (told M.Market.told) answers.old.items ++ session_answers (session_world M.Market.meaning S.IntervalSource.meaning R.Ranking.ahead self.old) (session_now M.Market.position S.IntervalSource.position self.old) calls.items }
         ensures session { session_now M.Market.position S.IntervalSource.position self.new ≡ session_end (session_world M.Market.meaning S.IntervalSource.meaning R.Ranking.ahead self.old) (session_now M.Market.position S.IntervalSource.position self.old) calls.items }
         ensures ranking { self.new.room.ranking ≡ self.old.room.ranking }
     {

@@ -7,8 +7,6 @@ use Rattle.market.specs.declared.quote.Quote.{Quote}
 use Rattle.market.specs.declared.range.TurnedQuote.{TurnedQuote}
 use Rattle.market.specs.Range.{RangePrices, turned_quote}
 use Rattle.interval.specs.Source.{WithinLimits}
-use Rattle.allocation.specs.declared.cause.EndCause.{EndCause}
-use Rattle.allocation.specs.declared.cause.EndCause.TheVariants.{NextAuction, PlainBelowFloor, Halt as Halted, Deadline}
 use Rattle.allocation.specs.declared.order.PairedOrder.{PairedOrder}
 use Rattle.room.specs.Clock.{due}
 use Rattle.room.specs.Openings.{opened_with}
@@ -23,9 +21,10 @@ use Rattle.session.proofs.Ending.Lives.{Stepped, kept, expired}
 use Rattle.session.proofs.Ending.Shapes.{Did, idle, opened, stored, ticks, halts, collected}
 use Rattle.room.proofs.Tests.{true_false}
 use Rattle.session.proofs.Ending.Waiting.{closed_length, without_length}
+use Rattle.std.specs.Str.{byte}
 
 -- an auction that ends is held as before, among those that wait
-closed_held : (c : EndCause) (o : Option OpenAuction) (es : List EndedAuction) → length (closed c o es) + 0 ≡ length es + cond (is_some o) 1 0
+closed_held : (c : ℕ) (o : Option OpenAuction) (es : List EndedAuction) → length (closed c o es) + 0 ≡ length es + cond (is_some o) 1 0
 closed_held c None es = refl
 closed_held c (Some a) es = let more = closed_length c a es in omega arith
 
@@ -37,12 +36,12 @@ module _ {P Q : Type 0} where
     pub same_opened : v.opened ≡ s.opened
     pub same_source : v.source ≡ s.source
 
-  ended_held : (c : EndCause) (s : RoomState P Q) → HoldsAsMany s (ended c s)
+  ended_held : (c : ℕ) (s : RoomState P Q) → HoldsAsMany s (ended c s)
   ended_held c s = record { as_many = closed_held c s.current s.waiting; none_due = refl; same_opened = refl; same_source = refl }
 
   pub stepped_held : (s u : RoomState P Q) → Stepped s u → held_in u ≡ held_in s
   stepped_held s u (kept t e h) = ap (λ (z : RoomState P Q). held_in z) e
-  stepped_held s u (expired t a c l e) = ap (λ (z : RoomState P Q). held_in z) e ∙ closed_held Deadline s.current s.waiting
+  stepped_held s u (expired t a c l e) = ap (λ (z : RoomState P Q). held_in z) e ∙ closed_held (byte "T") s.current s.waiting
 
   -- the same room with its open auction changed, not in number or deadline
   current_held : (s : RoomState P Q) (a b : OpenAuction) → s.current ≡ Some a → b.deadline ≡ a.deadline → due s.time s.current ≡ false → HoldsAsMany s (with_current b s)
@@ -53,16 +52,16 @@ module _ {P Q : Type 0} where
     same_source = refl;
   }
 
-  responded_held : (l : Bool) (s : RoomState P Q) (a b : OpenAuction) → s.current ≡ Some a → b.deadline ≡ a.deadline → due s.time s.current ≡ false → HoldsAsMany s (cond l (ended PlainBelowFloor (with_current b s)) (with_current b s))
+  responded_held : (l : Bool) (s : RoomState P Q) (a b : OpenAuction) → s.current ≡ Some a → b.deadline ≡ a.deadline → due s.time s.current ≡ false → HoldsAsMany s (cond l (ended (byte "E") (with_current b s)) (with_current b s))
   responded_held true s a b e d h = record {
-    as_many = closed_held PlainBelowFloor (Some b) s.waiting ∙ ap (λ (o : Option OpenAuction). length s.waiting + cond (is_some o) 1 0) (sym e);
+    as_many = closed_held (byte "E") (Some b) s.waiting ∙ ap (λ (o : Option OpenAuction). length s.waiting + cond (is_some o) 1 0) (sym e);
     none_due = refl;
     same_opened = refl;
     same_source = refl;
   }
   responded_held false s a b e d h = current_held s a b e d h
 
-  ticked_for_held : (c : Option EndCause) (q : TurnedQuote) (s : RoomState P Q) (a : OpenAuction) → s.current ≡ Some a → due s.time s.current ≡ false → HoldsAsMany s (ticked_for c q s a)
+  ticked_for_held : (c : Option ℕ) (q : TurnedQuote) (s : RoomState P Q) (a : OpenAuction) → s.current ≡ Some a → due s.time s.current ≡ false → HoldsAsMany s (ticked_for c q s a)
   ticked_for_held (Some c) q s a e h = ended_held c s
   ticked_for_held None q s a e h = current_held s a (at_floor (floor_now q.floor a.values.floor) a) e refl h
 
@@ -71,8 +70,8 @@ module _ {P Q : Type 0} where
   ticked_held (Some a) q s e h = ticked_for_held (tick_cause a.values (turned_quote a.values.order.side q)) (turned_quote a.values.order.side q) s a e h
 
   -- what neither an end nor a new current auction changes
-  module _ {X : Type 0} (f : RoomState P Q → X) (ends : (c : EndCause) (s : RoomState P Q) → f (ended c s) ≡ f s) (holds : (a : OpenAuction) (s : RoomState P Q) → f (with_current a s) ≡ f s) where
-    ticked_for_keeps : (c : Option EndCause) (q : TurnedQuote) (s : RoomState P Q) (a : OpenAuction) → f (ticked_for c q s a) ≡ f s
+  module _ {X : Type 0} (f : RoomState P Q → X) (ends : (c : ℕ) (s : RoomState P Q) → f (ended c s) ≡ f s) (holds : (a : OpenAuction) (s : RoomState P Q) → f (with_current a s) ≡ f s) where
+    ticked_for_keeps : (c : Option ℕ) (q : TurnedQuote) (s : RoomState P Q) (a : OpenAuction) → f (ticked_for c q s a) ≡ f s
     ticked_for_keeps (Some c) q s a = ends c s
     ticked_for_keeps None q s a = holds (at_floor (floor_now q.floor a.values.floor) a) s
 
@@ -80,8 +79,8 @@ module _ {P Q : Type 0} where
     ticked_keeps None q s = refl
     ticked_keeps (Some a) q s = ticked_for_keeps (tick_cause a.values (turned_quote a.values.order.side q)) (turned_quote a.values.order.side q) s a
 
-    responded_keeps : (l : Bool) (s : RoomState P Q) (b : OpenAuction) → f (cond l (ended PlainBelowFloor (with_current b s)) (with_current b s)) ≡ f s
-    responded_keeps true s b = ends PlainBelowFloor (with_current b s) ∙ holds b s
+    responded_keeps : (l : Bool) (s : RoomState P Q) (b : OpenAuction) → f (cond l (ended (byte "E") (with_current b s)) (with_current b s)) ≡ f s
+    responded_keeps true s b = ends (byte "E") (with_current b s) ∙ holds b s
     responded_keeps false s b = holds b s
 
   -- the open auction is the last that was opened
@@ -95,11 +94,11 @@ module _ {P Q : Type 0} where
   current_last : (s : RoomState P Q) (a b : OpenAuction) → s.current ≡ Some a → b.number ≡ a.number → IsTheLast s → IsTheLast (with_current b s)
   current_last s a b e k h = ap (λ n. eqb n s.opened) k ∙ sym (ap (is_number s.opened) e) ∙ h ∙ ap is_some e
 
-  responded_last : (l : Bool) (s : RoomState P Q) (a b : OpenAuction) → s.current ≡ Some a → b.number ≡ a.number → IsTheLast s → IsTheLast (cond l (ended PlainBelowFloor (with_current b s)) (with_current b s))
+  responded_last : (l : Bool) (s : RoomState P Q) (a b : OpenAuction) → s.current ≡ Some a → b.number ≡ a.number → IsTheLast s → IsTheLast (cond l (ended (byte "E") (with_current b s)) (with_current b s))
   responded_last true s a b e k h = refl
   responded_last false s a b e k h = current_last s a b e k h
 
-  ticked_for_last : (c : Option EndCause) (q : TurnedQuote) (s : RoomState P Q) (a : OpenAuction) → s.current ≡ Some a → IsTheLast s → IsTheLast (ticked_for c q s a)
+  ticked_for_last : (c : Option ℕ) (q : TurnedQuote) (s : RoomState P Q) (a : OpenAuction) → s.current ≡ Some a → IsTheLast s → IsTheLast (ticked_for c q s a)
   ticked_for_last (Some c) q s a e h = refl
   ticked_for_last None q s a e h = current_last s a (at_floor (floor_now q.floor a.values.floor) a) e refl h
 
@@ -116,9 +115,9 @@ module _ {P T F Q : Type 0} (w : World P T F Q) (m : Moment P T F Q) where
     fewer : opened_number m.answer ≡ None → is_collected m.answer ≡ true → m.after.opened ≡ m.stepped.opened → held_in m.after + 1 ≡ held_in m.stepped
         → due m.after.time m.after.current ≡ false → m.after.source ≡ m.stepped.source → Counted
 
-  pub opened_held : (o : Option OpenAuction) (es : List EndedAuction) → length (closed NextAuction o es) + 1 ≡ (length es + cond (is_some o) 1 0) + 1
+  pub opened_held : (o : Option OpenAuction) (es : List EndedAuction) → length (closed (byte "A") o es) + 1 ≡ (length es + cond (is_some o) 1 0) + 1
   opened_held None es = omega arith
-  opened_held (Some a) es = let more = closed_length NextAuction a es in omega arith
+  opened_held (Some a) es = let more = closed_length (byte "A") a es in omega arith
 
   not_due_yet : (t d : ℕ) → 100 ≤ d → leb (t + d) t ≡ false
   not_due_yet t d h = grind (arith, tests)
@@ -139,7 +138,7 @@ module _ {P T F Q : Type 0} (w : World P T F Q) (m : Moment P T F Q) where
       same (ap (λ (v : Answer F). opened_number v) y) (ap (λ (v : Answer F). is_collected v) y)
       (subst (HoldsAsMany m.stepped) (sym f) (record { as_many = held.as_many; none_due = held.none_due; same_opened = held.same_opened; same_source = held.same_source }))
   counted_by drawn h (halts t j y f) =
-      let held = ended_held Halted m.stepped in
+      let held = ended_held (byte "H") m.stepped in
       same (ap (λ (v : Answer F). opened_number v) y) (ap (λ (v : Answer F). is_collected v) y)
       (subst (HoldsAsMany m.stepped) (sym f) (record { as_many = held.as_many; none_due = refl; same_opened = refl; same_source = refl }))
   counted_by drawn h (collected d) =
@@ -173,7 +172,7 @@ module _ {P T F Q : Type 0} (w : World P T F Q) (m : Moment P T F Q) where
       ap (λ (v : RoomState P Q). v.position) f ∙ sym (ap (λ (v : Call T). position_then w.market.next (is_accepted m.answer) (tick_in v) m.stepped.position) j)
 
   -- the call's own business leaves time and number,
-  module _ {X : Type 0} (f : RoomState P Q → X) (ends : (c : EndCause) (s : RoomState P Q) → f (ended c s) ≡ f s) (holds : (a : OpenAuction) (s : RoomState P Q) → f (with_current a s) ≡ f s)
+  module _ {X : Type 0} (f : RoomState P Q → X) (ends : (c : ℕ) (s : RoomState P Q) → f (ended c s) ≡ f s) (holds : (a : OpenAuction) (s : RoomState P Q) → f (with_current a s) ≡ f s)
       (halts_so : (b : Bool) (s : RoomState P Q) → f (with_halted b s) ≡ f s) (moves : (p : P) (s : RoomState P Q) → f (at_position p s) ≡ f s) (opens : (s : RoomState P Q) (o : PairedOrder) (r : RangePrices) → f (opened_with w s o r) ≡ f s)
       (collects : (es : List EndedAuction) (s : RoomState P Q) → f (with_waiting es s) ≡ f s) where
     did_keeps : Did w m → f m.after ≡ f m.stepped
@@ -183,7 +182,7 @@ module _ {P T F Q : Type 0} (w : World P T F Q) (m : Moment P T F Q) where
     did_keeps (ticks t x j y e) =
         let at = at_position (w.market.next m.stepped.position x) m.stepped in
         ap f e ∙ ticked_keeps f ends holds m.stepped.current (w.market.shows (w.market.next m.stepped.position x)) at ∙ moves (w.market.next m.stepped.position x) m.stepped
-    did_keeps (halts t j y e) = ap f e ∙ halts_so true (ended Halted m.stepped) ∙ ends Halted m.stepped
+    did_keeps (halts t j y e) = ap f e ∙ halts_so true (ended (byte "H") m.stepped) ∙ ends (byte "H") m.stepped
     did_keeps (collected d) = ap f d.after_is ∙ collects (without_number d.claim.auction m.stepped.waiting) m.stepped
 
   pub time_by : Did w m → m.after.time ≡ m.stepped.time

@@ -5,8 +5,6 @@ use Rattle.std.proofs.lemmas.Bool.Decides.{nat_tests as tests}
 use Rattle.market.specs.declared.quote.Quote.{Quote}
 use Rattle.market.specs.declared.range.TurnedQuote.{TurnedQuote}
 use Rattle.market.specs.Range.{turned_quote}
-use Rattle.allocation.specs.declared.cause.EndCause.{EndCause}
-use Rattle.allocation.specs.declared.cause.EndCause.TheVariants.{Deadline, NextAuction, PlainBelowFloor, Halt as Halted}
 use Rattle.room.specs.State.{OpenAuction, EndedAuction, RoomState, at_time, at_position, with_halted, with_current, ended, is_number, numbered, without_number}
 use Rattle.room.specs.Ticks.{tick_cause, ticked_for, ticked, at_floor, floor_now}
 use Rattle.room.specs.World.{World}
@@ -18,6 +16,7 @@ use Rattle.session.proofs.Ending.Lives.{Stepped, kept, expired}
 use Rattle.session.proofs.Ending.Shapes.{Did, idle, opened, stored, ticks, halts, collected, OpenedHere, CollectedHere, opened_or_not, collected_or_not}
 use Rattle.room.proofs.Tests.{none_some}
 use Rattle.session.proofs.Ending.Waiting.{Once, closed_other, once_closed, numbered_without_other, once_without_other}
+use Rattle.std.specs.Str.{byte}
 
 module _ {P Q : Type 0} where
   pub record Elsewhere (n : ℕ) (s v : RoomState P Q) : Type 0 where
@@ -36,7 +35,7 @@ module _ {P Q : Type 0} where
     }
 
     -- the open auction, of another number, ends
-    ended_elsewhere : (c : EndCause) (s : RoomState P Q) → is_open n s ≡ false → Elsewhere n s (ended c s)
+    ended_elsewhere : (c : ℕ) (s : RoomState P Q) → is_open n s ≡ false → Elsewhere n s (ended c s)
     ended_elsewhere c s h = record {
       still_closed = refl;
       same_waiting = closed_other c n s.current s.waiting h;
@@ -55,13 +54,13 @@ module _ {P Q : Type 0} where
 
     pub stepped_elsewhere : (s u : RoomState P Q) → Stepped s u → is_open n s ≡ false → Elsewhere n s u
     stepped_elsewhere s u (kept t e d) h = subst (Elsewhere n s) (sym e) (same_elsewhere s (at_time t s) h refl refl)
-    stepped_elsewhere s u (expired t a c d e) h = subst (Elsewhere n s) (sym e) (both_elsewhere s (at_time t s) (ended Deadline (at_time t s)) (same_elsewhere s (at_time t s) h refl refl) (ended_elsewhere Deadline (at_time t s) h))
+    stepped_elsewhere s u (expired t a c d e) h = subst (Elsewhere n s) (sym e) (both_elsewhere s (at_time t s) (ended (byte "T") (at_time t s)) (same_elsewhere s (at_time t s) h refl refl) (ended_elsewhere (byte "T") (at_time t s) h))
 
-    responded_elsewhere : (b : Bool) (a : OpenAuction) (s : RoomState P Q) → is_open n s ≡ false → eqb a.number n ≡ false → Elsewhere n s (cond b (ended PlainBelowFloor (with_current a s)) (with_current a s))
-    responded_elsewhere true a s h k = both_elsewhere s (with_current a s) (ended PlainBelowFloor (with_current a s)) (same_elsewhere s (with_current a s) k refl refl) (ended_elsewhere PlainBelowFloor (with_current a s) k)
+    responded_elsewhere : (b : Bool) (a : OpenAuction) (s : RoomState P Q) → is_open n s ≡ false → eqb a.number n ≡ false → Elsewhere n s (cond b (ended (byte "E") (with_current a s)) (with_current a s))
+    responded_elsewhere true a s h k = both_elsewhere s (with_current a s) (ended (byte "E") (with_current a s)) (same_elsewhere s (with_current a s) k refl refl) (ended_elsewhere (byte "E") (with_current a s) k)
     responded_elsewhere false a s h k = same_elsewhere s (with_current a s) k refl refl
 
-    ticked_for_elsewhere : (c : Option EndCause) (q : TurnedQuote) (s : RoomState P Q) (a : OpenAuction) → is_open n s ≡ false → eqb a.number n ≡ false → Elsewhere n s (ticked_for c q s a)
+    ticked_for_elsewhere : (c : Option ℕ) (q : TurnedQuote) (s : RoomState P Q) (a : OpenAuction) → is_open n s ≡ false → eqb a.number n ≡ false → Elsewhere n s (ticked_for c q s a)
     ticked_for_elsewhere (Some c) q s a h k = ended_elsewhere c s h
     ticked_for_elsewhere None q s a h k = same_elsewhere s (with_current (at_floor (floor_now q.floor a.values.floor) a) s) k refl refl
 
@@ -79,8 +78,8 @@ module _ {P T F Q : Type 0} (w : World P T F Q) (n : ℕ) (m : Moment P T F Q) w
       let other : eqb (m.stepped.opened + 1) n ≡ false = sym (ap (λ (y : Answer F). is_same n (opened_number y)) d.answer_is) ∙ o in
       subst (Elsewhere n m.stepped) (sym d.after_is) (record {
         still_closed = other;
-        same_waiting = closed_other NextAuction n m.stepped.current m.stepped.waiting h;
-        still_once = once_closed NextAuction n m.stepped.current m.stepped.waiting h;
+        same_waiting = closed_other (byte "A") n m.stepped.current m.stepped.waiting h;
+        still_once = once_closed (byte "A") n m.stepped.current m.stepped.waiting h;
         opened_up = omega arith;
       })
   did_elsewhere (stored d) h o c =
@@ -90,7 +89,7 @@ module _ {P T F Q : Type 0} (w : World P T F Q) (n : ℕ) (m : Moment P T F Q) w
       let at = at_position (w.market.next m.stepped.position x) m.stepped in
       subst (Elsewhere n m.stepped) (sym f) (both_elsewhere n m.stepped at _ (same_elsewhere n m.stepped at h refl refl) (ticked_elsewhere n m.stepped.current (w.market.shows (w.market.next m.stepped.position x)) at refl h))
   did_elsewhere (halts t e a f) h o c =
-      subst (Elsewhere n m.stepped) (sym f) (both_elsewhere n m.stepped (ended Halted m.stepped) _ (ended_elsewhere n Halted m.stepped h) (same_elsewhere n (ended Halted m.stepped) (with_halted true (ended Halted m.stepped)) refl refl refl))
+      subst (Elsewhere n m.stepped) (sym f) (both_elsewhere n m.stepped (ended (byte "H") m.stepped) _ (ended_elsewhere n (byte "H") m.stepped h) (same_elsewhere n (ended (byte "H") m.stepped) (with_halted true (ended (byte "H") m.stepped)) refl refl refl))
   did_elsewhere (collected d) h o c =
       let other : eqb d.claim.auction n ≡ false = sym (ap (λ (y : Answer F). is_collected y && is_same n (claimed m.call)) d.answer_is ∙ ap (λ (y : Call T). is_same n (claimed y)) d.call_is) ∙ c in
       subst (Elsewhere n m.stepped) (sym d.after_is) (record {

@@ -4,8 +4,6 @@ use Rattle.std.proofs.Common.{◌≡◌, ◌⊎◌, inl, inr, ℕ, ◌+◌, ◌�
 use Rattle.std.proofs.lemmas.Bool.{and_from, and_left, and_right}
 use Rattle.market.specs.declared.range.TurnedQuote.{TurnedQuote}
 use Rattle.market.specs.Range.{turned_quote}
-use Rattle.allocation.specs.declared.cause.EndCause.{EndCause}
-use Rattle.allocation.specs.declared.cause.EndCause.TheVariants.{NextAuction, FloorAboveInitiating, FloorAboveResponse, FloorAboveStop, PlainBelowFloor, ContraBelowGuarantee, Halt as Halted, Deadline}
 use Rattle.allocation.specs.declared.order.PairedOrder.{PairedOrder}
 use Rattle.allocation.specs.Auction.{told_of}
 use Rattle.room.specs.declared.answers.StoredTerms.{StoredTerms}
@@ -27,16 +25,17 @@ use Rattle.session.proofs.Linked.{Matches}
 use Rattle.room.proofs.Sound.{Sound, tick_sound}
 use Rattle.room.proofs.Tests.{none_some}
 use Rattle.session.proofs.Ending.Waiting.{Once, as_ended, numbered_new, once_new, numbered_without_other}
+use Rattle.std.specs.Str.{byte}
 
 -- The first cause of eight, in the order T, A, B, C, D, F, E, H.
-abbrev cause_among : Bool → Bool → Bool → Bool → Bool → Bool → Bool → Bool → Option EndCause
+abbrev cause_among : Bool → Bool → Bool → Bool → Bool → Bool → Bool → Bool → Option ℕ
 cause_among t a b c d f e h =
-    ends_for t Deadline (ends_for a NextAuction (ends_for b FloorAboveInitiating (ends_for c FloorAboveResponse (ends_for d FloorAboveStop (ends_for f ContraBelowGuarantee (ends_for e PlainBelowFloor (ends_for h Halted None)))))))
+    ends_for t (byte "T") (ends_for a (byte "A") (ends_for b (byte "B") (ends_for c (byte "C") (ends_for d (byte "D") (ends_for f (byte "F") (ends_for e (byte "E") (ends_for h (byte "H") None)))))))
 
-deadline_first : (t a b c d f e h : Bool) → t ≡ true → cause_among t a b c d f e h ≡ Some Deadline
+deadline_first : (t a b c d f e h : Bool) → t ≡ true → cause_among t a b c d f e h ≡ Some (byte "T")
 deadline_first t a b c d f e h ht = cc
 
-next_first : (t a b c d f e h : Bool) → t ≡ false → a ≡ true → cause_among t a b c d f e h ≡ Some NextAuction
+next_first : (t a b c d f e h : Bool) → t ≡ false → a ≡ true → cause_among t a b c d f e h ≡ Some (byte "A")
 next_first t a b c d f e h ht ha = cc
 
 -- A call that brings no tick brings none of the four causes that a tick has.
@@ -46,14 +45,14 @@ untouched t a tick b c d f e h ht = ap (λ (k : Bool). cause_among t a (k && b) 
 none_of : (t a tick b c d f e h : Bool) → t ≡ false → a ≡ false → tick ≡ false → e ≡ false → h ≡ false → cause_among t a (tick && b) (tick && c) (tick && d) (tick && f) e h ≡ None
 none_of t a tick b c d f e h ht ha hk he hh = let quiet = untouched t a tick b c d f e h hk in cc
 
-plain_first : (t a tick b c d f e h : Bool) → t ≡ false → a ≡ false → tick ≡ false → e ≡ true → cause_among t a (tick && b) (tick && c) (tick && d) (tick && f) e h ≡ Some PlainBelowFloor
+plain_first : (t a tick b c d f e h : Bool) → t ≡ false → a ≡ false → tick ≡ false → e ≡ true → cause_among t a (tick && b) (tick && c) (tick && d) (tick && f) e h ≡ Some (byte "E")
 plain_first t a tick b c d f e h ht ha hk he = let quiet = untouched t a tick b c d f e h hk in cc
 
-halt_first : (t a tick b c d f e h : Bool) → t ≡ false → a ≡ false → tick ≡ false → e ≡ false → h ≡ true → cause_among t a (tick && b) (tick && c) (tick && d) (tick && f) e h ≡ Some Halted
+halt_first : (t a tick b c d f e h : Bool) → t ≡ false → a ≡ false → tick ≡ false → e ≡ false → h ≡ true → cause_among t a (tick && b) (tick && c) (tick && d) (tick && f) e h ≡ Some (byte "H")
 halt_first t a tick b c d f e h ht ha hk he hh = let quiet = untouched t a tick b c d f e h hk in cc
 
 tick_first : (t a b c d f e h b' c' d' f' : Bool) → t ≡ false → a ≡ false → b ≡ b' → c ≡ c' → d ≡ d' → f ≡ f' → e ≡ false → h ≡ false
-    → cause_among t a b c d f e h ≡ ends_for b' FloorAboveInitiating (ends_for c' FloorAboveResponse (ends_for d' FloorAboveStop (ends_for f' ContraBelowGuarantee None)))
+    → cause_among t a b c d f e h ≡ ends_for b' (byte "B") (ends_for c' (byte "C") (ends_for d' (byte "D") (ends_for f' (byte "F") None)))
 tick_first t a b c d f e h b' c' d' f' ht ha hb hc hd hf he hh = cc
 
 -- either way the same
@@ -125,7 +124,7 @@ module _ {P T F Q : Type 0} (w : World P T F Q) (p : P) (q : Q) where
     floor_moved : ticked_at x ≡ true → first_cause w p q before x s ≡ None → s_next.floor ≡ shown_or (shown_now w p q s (x ∷ before)).floor s.floor
     floor_moved h k =
         ap (λ (b : Bool). cond (b && not (is_some (first_cause w p q before x s))) (shown_or (shown_now w p q s (x ∷ before)).floor s.floor) s.floor) h
-        ∙ ap (λ (o : Option EndCause). cond (not (is_some o)) (shown_or (shown_now w p q s (x ∷ before)).floor s.floor) s.floor) k
+        ∙ ap (λ (o : Option ℕ). cond (not (is_some o)) (shown_or (shown_now w p q s (x ∷ before)).floor s.floor) s.floor) k
 
     stood_late : tT ≡ true → s_next.stood ≡ s.stood
     stood_late h = ap (λ (b : Bool). cond b s.stood (stood_told w p q before x s (told_terms m.answer))) h
@@ -165,7 +164,7 @@ module _ {P T F Q : Type 0} (w : World P T F Q) (p : P) (q : Q) where
     matches_quiet : told_terms m.answer ≡ None → (ticked_at x && not (is_some (first_cause w p q before x s))) ≡ false → Matches s_next a
     matches_quiet k f = matches_as_it_was (floor_kept f) (stood_quiet k) (storing_quiet k)
 
-    now_over : (c : EndCause) (b : OpenAuction) → opens n x ≡ false → collects n x ≡ false → ends_at n m ≡ true → first_cause w p q before x s ≡ Some c → Matches s_next b → Apart b → Over w p q n (m ∷ past) (as_ended c b)
+    now_over : (c : ℕ) (b : OpenAuction) → opens n x ≡ false → collects n x ≡ false → ends_at n m ≡ true → first_cause w p q before x s ≡ Some c → Matches s_next b → Apart b → Over w p q n (m ∷ past) (as_ended c b)
     now_over c b o u h k t y = record {
       story = s_next;
       is_its_story = story_lives w p q n past m s o live.is_its_story live.goes_on;
@@ -195,7 +194,7 @@ module _ {P T F Q : Type 0} (w : World P T F Q) (p : P) (q : Q) where
     }
 
     -- an auction that has just ended, for this cause, waits behind the others
-    ends_now : (c : EndCause) (b : OpenAuction) → is_open n m.before ≡ true → is_open n m.after ≡ false → opens n x ≡ false → collects n x ≡ false
+    ends_now : (c : ℕ) (b : OpenAuction) → is_open n m.before ≡ true → is_open n m.after ≡ false → opens n x ≡ false → collects n x ≡ false
         → eqb b.number n ≡ true → numbered n m.before.waiting ≡ None → m.after.waiting ≡ m.before.waiting ++ as_ended c b ∷ []
         → first_cause w p q before x s ≡ Some c → Matches s_next b → Apart b → Fate n past m
     ends_now c b h k o u i z e f t y =
@@ -228,7 +227,7 @@ module _ {P T F Q : Type 0} (w : World P T F Q) (p : P) (q : Q) where
     not_collected_now (inr none) h c = ap (λ (b : Bool). b && is_same n (claimed m.call)) none
 
     pub expired_ends : Did w m → (t : ℕ) → m.before.current ≡ Some a → eqb a.number n ≡ true → numbered n m.before.waiting ≡ None → n ≤ m.stepped.opened
-        → leb a.deadline t ≡ true → m.stepped ≡ ended Deadline (at_time t m.before) → EndsHere n past m
+        → leb a.deadline t ≡ true → m.stepped ≡ ended (byte "T") (at_time t m.before) → EndsHere n past m
     expired_ends d t c i z o l e =
         let none : m.stepped.current ≡ None = ap (λ (v : RoomState P Q). v.current) e in
         let open_before : is_open n m.before ≡ true = ap (is_number n) c ∙ i in
@@ -236,20 +235,20 @@ module _ {P T F Q : Type 0} (w : World P T F Q) (p : P) (q : Q) where
         let unopened = not_opened w n m d o in
         let uncollected = not_collected_now (collected_or_not w m d) none c in
         let rest = did_elsewhere w n m d shut unopened uncollected in
-        let waits_so : m.stepped.waiting ≡ m.before.waiting ++ as_ended Deadline a ∷ [] = ap (λ (v : RoomState P Q). v.waiting) e ∙ ap (λ v. closed Deadline v m.before.waiting) c in
-        let now_numbered = ap (numbered n) waits_so ∙ numbered_new n m.before.waiting (as_ended Deadline a) z i in
-        let now_once = ap (λ es. numbered n (without_number n es)) waits_so ∙ once_new n m.before.waiting (as_ended Deadline a) z i in
+        let waits_so : m.stepped.waiting ≡ m.before.waiting ++ as_ended (byte "T") a ∷ [] = ap (λ (v : RoomState P Q). v.waiting) e ∙ ap (λ v. closed (byte "T") v m.before.waiting) c in
+        let now_numbered = ap (numbered n) waits_so ∙ numbered_new n m.before.waiting (as_ended (byte "T") a) z i in
+        let now_once = ap (λ es. numbered n (without_number n es)) waits_so ∙ once_new n m.before.waiting (as_ended (byte "T") a) z i in
         let reached : tT ≡ true = reached_by t (ap (λ (v : RoomState P Q). v.time) e) ∙ l in
-        let caused : first_cause w p q before x s ≡ Some Deadline = deadline_first tT tA tB tC tD tF tE tH reached in
+        let caused : first_cause w p q before x s ≡ Some (byte "T") = deadline_first tT tA tB tC tD tF tE tH reached in
         let ended_here : ends_at n m ≡ true = and_from (is_open n m.before) _ open_before (ap not rest.still_closed) in
-        let floor_stays = and_right (ticked_at x) _ (ap (λ (k : Option EndCause). not (is_some k)) caused) in
+        let floor_stays = and_right (ticked_at x) _ (ap (λ (k : Option ℕ). not (is_some k)) caused) in
         record {
-          as_it_waits = as_ended Deadline a;
+          as_it_waits = as_ended (byte "T") a;
           caused = cause_by_story ∙ caused;
           waits_now = rest.same_waiting ∙ now_numbered;
           waits_once = rest.still_once now_once;
           shut = rest.still_closed;
-          over = now_over Deadline a unopened uncollected ended_here caused (matches_as_it_was (floor_kept floor_stays) (stood_late reached) (storing_late reached)) live.apart;
+          over = now_over (byte "T") a unopened uncollected ended_here caused (matches_as_it_was (floor_kept floor_stays) (stood_late reached) (storing_late reached)) live.apart;
         }
 
     -- No deadline is reached: the shapes one by one.
@@ -288,8 +287,8 @@ module _ {P T F Q : Type 0} (w : World P T F Q) (p : P) (q : Q) where
           let unopened = not_opened w n m did o in
           let shut : is_open n m.after ≡ false = ap (λ (v : RoomState P Q). is_open n v) f ∙ sym (ap (λ (k : Answer F). is_same n (opened_number k)) y) ∙ unopened in
           let no_ticks : ticked_at x ≡ false = ap (λ (k : Answer F). is_accepted k && is_some (tick_in m.call)) y in
-          ends_now NextAuction a open_before shut unopened (not_collected w n m did none_then) i z
-          (ap (λ (v : RoomState P Q). v.waiting) f ∙ ap (λ k. closed NextAuction k m.stepped.waiting) current_then ∙ ap (λ es. es ++ as_ended NextAuction a ∷ []) waiting_then)
+          ends_now (byte "A") a open_before shut unopened (not_collected w n m did none_then) i z
+          (ap (λ (v : RoomState P Q). v.waiting) f ∙ ap (λ k. closed (byte "A") k m.stepped.waiting) current_then ∙ ap (λ es. es ++ as_ended (byte "A") a ∷ []) waiting_then)
           (next_first tT tA tB tC tD tF tE tH (not_yet t e c d) (ap (λ (k : Answer F). is_some (opened_number k)) y))
           (matches_quiet (ap (λ (k : Answer F). told_terms k) y) (no_tick no_ticks)) live.apart
 
@@ -347,11 +346,11 @@ module _ {P T F Q : Type 0} (w : World P T F Q) (p : P) (q : Q) where
         not_halting = ap (λ (k : Answer F). is_accepted k && is_halt m.call) here.answer_is
 
         fate_stored : (l : Bool) → plain_below here.was.values.order.side here.was.values.floor m.call ≡ l
-            → m.after ≡ cond l (ended PlainBelowFloor (with_current b m.stepped)) (with_current b m.stepped) → Fate n past m
+            → m.after ≡ cond l (ended (byte "E") (with_current b m.stepped)) (with_current b m.stepped) → Fate n past m
         fate_stored true h f =
             let shut : is_open n m.after ≡ false = ap (λ (v : RoomState P Q). is_open n v) f in
-            ends_now PlainBelowFloor b open_before shut (not_opened w n m did o) (not_collected w n m did none_then) number_is z
-            (ap (λ (v : RoomState P Q). v.waiting) f ∙ ap (λ es. es ++ as_ended PlainBelowFloor b ∷ []) waiting_then)
+            ends_now (byte "E") b open_before shut (not_opened w n m did o) (not_collected w n m did none_then) number_is z
+            (ap (λ (v : RoomState P Q). v.waiting) f ∙ ap (λ es. es ++ as_ended (byte "E") b ∷ []) waiting_then)
             (plain_first tT tA (ticked_at x) _ _ _ _ tE tH (not_yet t e c d) not_opening
             quiet_tick (below_is ∙ h))
             matches_stored apart_now
@@ -433,14 +432,14 @@ module _ {P T F Q : Type 0} (w : World P T F Q) (p : P) (q : Q) where
               sound = tick_sound a.values quote_now h was.sound;
             }
 
-        fate_ticked : (k : Option EndCause) → tick_cause a.values quote_now ≡ k → m.after ≡ ticked_for k quote_now (at_position position_next m.stepped) a → Fate n past m
+        fate_ticked : (k : Option ℕ) → tick_cause a.values quote_now ≡ k → m.after ≡ ticked_for k quote_now (at_position position_next m.stepped) a → Fate n past m
         fate_ticked (Some h) k f =
             let shut : is_open n m.after ≡ false = ap (λ (v : RoomState P Q). is_open n v) f in
             let caused = cause_is ∙ k in
             ends_now h a open_before shut (not_opened w n m did o) (not_collected w n m did none_then) i z
             (ap (λ (v : RoomState P Q). v.waiting) f ∙ ap (λ v. closed h v m.stepped.waiting) current_then ∙ ap (λ es. es ++ as_ended h a ∷ []) waiting_then)
             caused
-            (matches_quiet told_none (and_right (ticked_at x) _ (ap (λ (v : Option EndCause). not (is_some v)) caused))) live.apart
+            (matches_quiet told_none (and_right (ticked_at x) _ (ap (λ (v : Option ℕ). not (is_some v)) caused))) live.apart
         fate_ticked None k f =
             let here : m.after.current ≡ Some refloored = ap (λ (v : RoomState P Q). v.current) f in
             stays_now refloored open_before here i (not_opened w n m did o) (not_collected w n m did none_then)
@@ -448,12 +447,12 @@ module _ {P T F Q : Type 0} (w : World P T F Q) (p : P) (q : Q) where
             (matches_refloored k) (record { arrived = live.apart.arrived; arrivals = live.apart.arrivals; owns = live.apart.owns })
 
       -- a halt is accepted
-      fate_halted : (g : ℕ) → m.call ≡ Halt g → m.answer ≡ Accepted → m.after ≡ with_halted true (ended Halted m.stepped) → Did w m → Fate n past m
+      fate_halted : (g : ℕ) → m.call ≡ Halt g → m.answer ≡ Accepted → m.after ≡ with_halted true (ended (byte "H") m.stepped) → Did w m → Fate n past m
       fate_halted g j y f did =
           let shut : is_open n m.after ≡ false = ap (λ (v : RoomState P Q). is_open n v) f in
           let no_ticks : ticked_at x ≡ false = ap (λ (k : Answer F). is_accepted k && is_some (tick_in m.call)) y ∙ ap (λ (k : Call T). is_some (tick_in k)) j in
-          ends_now Halted a open_before shut (not_opened w n m did o) (not_collected w n m did none_then) i z
-          (ap (λ (v : RoomState P Q). v.waiting) f ∙ ap (λ v. closed Halted v m.stepped.waiting) current_then ∙ ap (λ es. es ++ as_ended Halted a ∷ []) waiting_then)
+          ends_now (byte "H") a open_before shut (not_opened w n m did o) (not_collected w n m did none_then) i z
+          (ap (λ (v : RoomState P Q). v.waiting) f ∙ ap (λ v. closed (byte "H") v m.stepped.waiting) current_then ∙ ap (λ es. es ++ as_ended (byte "H") a ∷ []) waiting_then)
           (halt_first tT tA (ticked_at x) _ _ _ _ tE tH (not_yet t e c d) (ap (λ (k : Answer F). is_some (opened_number k)) y)
           no_ticks
           (ap (λ (k : Answer F). is_some (told_terms k) && plain_below s.opening.order.side s.floor m.call) y)

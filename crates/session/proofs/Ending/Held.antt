@@ -4,10 +4,8 @@ use Rattle.std.proofs.lemmas.Bool.{and_left}
 use Rattle.std.specs.Option.{option_map}
 use Rattle.std.proofs.lemmas.Bool.Decides.{nat_tests as tests}
 use Rattle.std.proofs.lemmas.List.{get_or-replicate}
-use Rattle.market.specs.declared.refusal.RangeRefusal.{RangeRefusal}
 use Rattle.market.specs.Range.{RangePrices, permitted}
 use Rattle.interval.specs.Source.{WithinLimits}
-use Rattle.allocation.specs.declared.cause.EndCause.TheVariants.{NextAuction}
 use Rattle.allocation.specs.declared.order.PairedOrder.{PairedOrder}
 use Rattle.room.specs.Clock.{due}
 use Rattle.room.specs.Openings.{new_auction, none_used}
@@ -26,6 +24,7 @@ use Rattle.session.proofs.Ending.Shapes.{Did, OpenedHere, CollectedHere, opened_
 use Rattle.room.proofs.Sound.{new_sound, permitted_ordered}
 use Rattle.room.proofs.Tests.{true_false, none_some}
 use Rattle.session.proofs.Ending.Waiting.{Once, closed_other}
+use Rattle.std.specs.Str.{byte}
 
 module _ {P T F Q : Type 0} (w : World P T F Q) (drawn : WithinLimits w.source) (number : ℕ) (p : P) (q : Q) where
   -- what holds of a room after a history
@@ -136,7 +135,7 @@ module _ {P T F Q : Type 0} (w : World P T F Q) (drawn : WithinLimits w.source) 
       story_is =
           ap (λ (b : Bool). cond b (story_opened w p q (order_in m.call) before (time_then (x ∷ before))) (option_map (story_after w p q before x) (story_of w p q n before))) o
           ∙ ap (λ (c : Call T). story_opened w p q (order_in c) before (time_then (x ∷ before))) d.call_is
-          ∙ ap (λ (e : Result RangePrices RangeRefusal). story_by order e (time_then (x ∷ before)) (w.source.draws (source_at w p q before)))
+          ∙ ap (λ (e : Result RangePrices ℕ). story_by order e (time_then (x ∷ before)) (w.source.draws (source_at w p q before)))
           (ap (λ e. permitted order.side order.limit (w.market.shows e)) (sym position_then_is) ∙ d.permitted_then)
 
       none_collected : collects n x ≡ false
@@ -176,7 +175,7 @@ module _ {P T F Q : Type 0} (w : World P T F Q) (drawn : WithinLimits w.source) 
       new_life =
           let shut = (stepped_elsewhere n m.before m.stepped clock k).still_closed in
           alive new (ap (λ (e : RoomState P Q). e.current) d.after_is) number_told
-          (ap (λ (e : RoomState P Q). numbered n e.waiting) d.after_is ∙ closed_other NextAuction n m.stepped.current m.stepped.waiting shut ∙ none_stepped n k v)
+          (ap (λ (e : RoomState P Q). numbered n e.waiting) d.after_is ∙ closed_other (byte "A") n m.stepped.current m.stepped.waiting shut ∙ none_stepped n k v)
           (let e = ap (λ (e : RoomState P Q). e.opened) d.after_is in let is = number_is in omega arith)
           new_alive
 
@@ -304,7 +303,7 @@ module _ {P T F Q : Type 0} (w : World P T F Q) (drawn : WithinLimits w.source) 
 
   -- what the clock step of a call does, and the call
   pub clock_of : (s : RoomState P Q) (c : Call T) → due s.time s.current ≡ false → Stepped s (moment w s c).stepped
-  clock_of s c h = stepped_by (input_refusal {F = F} c) (given_time c) s h
+  clock_of s c h = stepped_by (input_refusal c) (given_time c) s h
 
   pub holds_after : (past : List (Moment P T F Q)) (s : RoomState P Q) (c : Call T) → Holds past s → Holds (moment w s c ∷ past) (step w s c).0
-  holds_after past s c h = holds_next past (moment w s c) h (clock_of s c h.none_due) (stepped_time F c s) (did w s c)
+  holds_after past s c h = holds_next past (moment w s c) h (clock_of s c h.none_due) (stepped_time c s) (did w s c)

@@ -3,15 +3,12 @@ use Rattle.std.proofs.Common.{◌≡◌, ◌⊎◌, inl, inr, ℕ, ◌+◌, ◌<
 use Rattle.std.proofs.lemmas.Bool.{and_from, and_parts, and_right, not-true}
 use Rattle.std.proofs.lemmas.Bool.Decides.{nat_tests as tests}
 use Rattle.interval.specs.Source.{WithinLimits}
-use Rattle.allocation.specs.declared.cause.EndCause.{EndCause}
-use Rattle.allocation.specs.declared.cause.EndCause.TheVariants.{Deadline, Halt as Halted}
 use Rattle.room.specs.declared.answers.ClaimNumbers.{ClaimNumbers}
-use Rattle.room.specs.declared.answers.Collection.{Collection}
 use Rattle.room.specs.Checks.{open_checks, respond_checks, change_checks, withdraw_checks, time_checks, collect_checks}
 use Rattle.room.specs.Clock.{clocked, due, timed}
-use Rattle.room.specs.Collecting.{fill_rows, waiting_now, written}
+use Rattle.room.specs.Collecting.{CollectionTold, fill_rows, waiting_now, written}
 use Rattle.room.specs.Openings.{opening}
-use Rattle.room.specs.Refusals.{refuse, unless, outcome}
+use Rattle.room.specs.Refusals.{RefusalTold, refuse, unless, outcome}
 use Rattle.room.specs.Responses.{responding, changing, withdrawing}
 use Rattle.room.specs.State.{OpenAuction, EndedAuction, RoomState, new_room, is_number, numbered, without_number, with_waiting, with_halted, at_time, ended}
 use Rattle.room.specs.Ticks.{ticking}
@@ -29,6 +26,7 @@ use Rattle.session.proofs.Ending.Fates.{Fate, stays, ends, expired_ends}
 use Rattle.session.proofs.Ending.Lives.{Stepped, kept, expired, unstepped, stepped_time, stepped_opened, Alive, Over, over_cause, Life, unborn, alive, waiting, gone, ended_kept}
 use Rattle.session.proofs.Ending.Shapes.{OpenedHere, CollectedHere, opened_or_not, collected_or_not, did}
 use Rattle.room.proofs.Tests.{true_false, none_some}
+use Rattle.std.specs.Str.{byte}
 
 -- the clock step done twice is the clock step
 max_again : (a t : ℕ) → max (max a t) t ≡ max a t
@@ -36,34 +34,34 @@ max_again a t = omega arith
 
 module _ {P Q : Type 0} where
   clocked_again : (b : Bool) (s : RoomState P Q) (t : ℕ) → due (max s.time t) s.current ≡ b
-      → clocked (cond b (ended Deadline (at_time (max s.time t) s)) (at_time (max s.time t) s)) t ≡ cond b (ended Deadline (at_time (max s.time t) s)) (at_time (max s.time t) s)
-  clocked_again true s t h = ap (λ n. at_time n (ended Deadline (at_time (max s.time t) s))) (max_again s.time t)
+      → clocked (cond b (ended (byte "T") (at_time (max s.time t) s)) (at_time (max s.time t) s)) t ≡ cond b (ended (byte "T") (at_time (max s.time t) s)) (at_time (max s.time t) s)
+  clocked_again true s t h = ap (λ n. at_time n (ended (byte "T") (at_time (max s.time t) s))) (max_again s.time t)
   clocked_again false s t h =
       let u = at_time (max s.time t) s in
-      ap (λ n. cond (due n s.current) (ended Deadline (at_time n u)) (at_time n u)) (max_again s.time t) ∙ ap (λ (b : Bool). cond b (ended Deadline u) u) h
+      ap (λ n. cond (due n s.current) (ended (byte "T") (at_time n u)) (at_time n u)) (max_again s.time t) ∙ ap (λ (b : Bool). cond b (ended (byte "T") u) u) h
 
   clocked_twice : (s : RoomState P Q) (t : ℕ) → clocked (clocked s t) t ≡ clocked s t
   clocked_twice s t = clocked_again (due (max s.time t) s.current) s t refl
 
-  timed_again : {Y R : Type 0} (k : Option R) (s : RoomState P Q) (t : ℕ) (f : RoomState P Q → RoomState P Q × Result Y R) → timed k (clock_stepped k (Some t) s) t f ≡ timed k s t f
+  timed_again : {Y F : Type 0} (k : Option ℕ) (s : RoomState P Q) (t : ℕ) (f : RoomState P Q → RoomState P Q × Result Y (RefusalTold F)) → timed k (clock_stepped k (Some t) s) t f ≡ timed k s t f
   timed_again None s t f = ap f (clocked_twice s t)
   timed_again (Some e) s t f = refl
 
 -- a call does to the room as its clock step left it what it does to the room before
-business_after : {P T F Q : Type 0} (w : World P T F Q) (s : RoomState P Q) (c : Call T) → step w (clock_stepped (input_refusal {F = F} c) (given_time c) s) c ≡ step w s c
-business_after {F = F} w s (Open x) = ap (answering Opened) (timed_again (open_checks {F = F} x) s x.time (λ u. opening w u x.order))
-business_after {F = F} w s (Respond x) = ap (answering Stored) (timed_again (respond_checks {F = F} x) s x.time (λ u. responding u x))
-business_after {F = F} w s (Change x) = ap (answering Stored) (timed_again (change_checks {F = F} x) s x.time (λ u. changing u x))
-business_after {F = F} w s (Withdraw x) = ap (answering Stored) (timed_again (withdraw_checks {F = F} x) s x.time (λ u. withdrawing u x))
-business_after {F = F} w s (Tick t x) = ap (answering (λ _. Accepted)) (timed_again (time_checks {F = F} t) s t (λ u. ticking w u x))
-business_after {F = F} w s (Halt t) = ap (answering (λ _. Accepted)) (timed_again (time_checks {F = F} t) s t (λ u. (with_halted true (ended Halted u), Ok tt)))
-business_after {F = F} w s (Resume t) = ap (answering (λ _. Accepted)) (timed_again (time_checks {F = F} t) s t (λ u. (with_halted false u, Ok tt)))
-business_after {F = F} w s (Clock t) = ap (answering (λ _. Accepted)) (timed_again (time_checks {F = F} t) s t (λ u. (u, Ok tt)))
+business_after : {P T F Q : Type 0} (w : World P T F Q) (s : RoomState P Q) (c : Call T) → step w (clock_stepped (input_refusal c) (given_time c) s) c ≡ step w s c
+business_after w s (Open x) = ap (answering Opened) (timed_again (open_checks x) s x.time (λ u. opening w u x.order))
+business_after w s (Respond x) = ap (answering Stored) (timed_again (respond_checks x) s x.time (λ u. responding u x))
+business_after w s (Change x) = ap (answering Stored) (timed_again (change_checks x) s x.time (λ u. changing u x))
+business_after w s (Withdraw x) = ap (answering Stored) (timed_again (withdraw_checks x) s x.time (λ u. withdrawing u x))
+business_after w s (Tick t x) = ap (answering (λ _. Accepted)) (timed_again (time_checks t) s t (λ u. ticking w u x))
+business_after w s (Halt t) = ap (answering (λ _. Accepted)) (timed_again (time_checks t) s t (λ u. (with_halted true (ended (byte "H") u), Ok tt)))
+business_after w s (Resume t) = ap (answering (λ _. Accepted)) (timed_again (time_checks t) s t (λ u. (with_halted false u, Ok tt)))
+business_after w s (Clock t) = ap (answering (λ _. Accepted)) (timed_again (time_checks t) s t (λ u. (u, Ok tt)))
 business_after w s Look = refl
-business_after {F = F} w s (Collect c n) = ap (λ u. step w u (Collect c n)) (unstepped (collect_checks {F = F} n) s)
+business_after w s (Collect c n) = ap (λ u. step w u (Collect c n)) (unstepped (collect_checks n) s)
 
 -- whether a collecting is accepted, by the tests one after another
-accepted_by : {P T F Q : Type 0} (w : World P T F Q) (a b c : Bool) (o : Option EndedAuction) (s : RoomState P Q) (k : EndedAuction → RoomState P Q) (r : EndedAuction → Collection)
+accepted_by : {P T F Q : Type 0} (w : World P T F Q) (a b c : Bool) (o : Option EndedAuction) (s : RoomState P Q) (k : EndedAuction → RoomState P Q) (r : EndedAuction → CollectionTold)
     → is_collected (answered {F = F} (λ z. Collected z (written w (unless (refuse a 6 None) (unless (refuse b 42 (refuse c 41 None)) (waiting_now o)))))
     (outcome (unless (refuse a 6 None) (unless (refuse b 42 (refuse c 41 None)) (waiting_now o))) s k r).1)
     ≡ (not a && (not b && (not c && is_some o)))
@@ -88,7 +86,7 @@ module _ {P T F Q : Type 0} (w : World P T F Q) (drawn : WithinLimits w.source) 
     clock = clock_of w drawn number p q s c h.none_due
 
     reaches_time : m.stepped.time ≡ max s.time (clock_time c)
-    reaches_time = stepped_time F c s
+    reaches_time = stepped_time c s
 
     -- the history's time, after the clock step
     pub time_now : m.stepped.time ≡ time_then (history_of (m ∷ past))
@@ -161,10 +159,10 @@ module _ {P T F Q : Type 0} (w : World P T F Q) (drawn : WithinLimits w.source) 
   pub waits_by : (n : ℕ) (v : RoomState P Q) (ms : List (Moment P T F Q)) → Life w p q n ms v → is_some (numbered n v.waiting) ≡ waits_then w p q n (history_of ms)
   waits_by n v ms (unborn o x z te wc up) = ap is_some z ∙ sym (ap (λ k. is_over k && not (was_collected n (history_of ms))) o)
   waits_by n v ms (alive a x i z o live) =
-      ap is_some z ∙ sym (ap (λ k. is_over k && not (was_collected n (history_of ms))) live.is_its_story ∙ ap (λ (k : Option EndCause). is_some k && not (was_collected n (history_of ms))) live.goes_on)
+      ap is_some z ∙ sym (ap (λ k. is_over k && not (was_collected n (history_of ms))) live.is_its_story ∙ ap (λ (k : Option ℕ). is_some k && not (was_collected n (history_of ms))) live.goes_on)
   waits_by n v ms (waiting e z once x o over) =
       ap is_some z
-      ∙ sym (ap (λ k. is_over k && not (was_collected n (history_of ms))) over.is_its_story ∙ ap (λ (k : Option EndCause). is_some k && not (was_collected n (history_of ms))) over.cause_is ∙ ap not over.uncollected)
+      ∙ sym (ap (λ k. is_over k && not (was_collected n (history_of ms))) over.is_its_story ∙ ap (λ (k : Option ℕ). is_some k && not (was_collected n (history_of ms))) over.cause_is ∙ ap not over.uncollected)
   waits_by n v ms (gone z x o g) = ap is_some z ∙ sym (and_right (is_over (story_of w p q n (history_of ms))) _ (ap not g.was_taken))
 
   -- which does not wait while it is open
@@ -217,7 +215,7 @@ module _ {P T F Q : Type 0} (w : World P T F Q) (drawn : WithinLimits w.source) 
           waits_until_collected = λ n. waits_by n (step w s c).0 (moment w s c ∷ past) (next.lives n);
           none_lost = next.none_lost;
           at_most_two = next.at_most_two;
-          counted_from_one = λ n. numbered_by past s c h n (tally w drawn number p q past (moment w s c) h (clock past s c h) (stepped_time F c s) (did w s c));
+          counted_from_one = λ n. numbered_by past s c h n (tally w drawn number p q past (moment w s c) h (clock past s c h) (stepped_time c s) (did w s c));
           opens_in_a_range = λ n e. let here = opened_open (moment w s c) n (opened_or_not w (moment w s c) (did w s c)) e in (here, in_range n (step w s c).0 (moment w s c ∷ past) here (next.lives n));
           collected_when_due = when_due;
         }
@@ -230,7 +228,7 @@ module _ {P T F Q : Type 0} (w : World P T F Q) (drawn : WithinLimits w.source) 
 
     caused_live : (n : ℕ) → is_open n s ≡ true → Life w p q n past s → ends_at n (moment w s c) ≡ is_some (cause_at w p q n (history_of past) (exchange_of (moment w s c)))
     caused_live n k (unborn o x v te wc up) = true_false (sym k ∙ x)
-    caused_live n k (alive a e i z o live) = caused_by n k (fate_of w drawn number p q past (moment w s c) h (clock past s c h) (stepped_time F c s) (did w s c) n a e i z o live)
+    caused_live n k (alive a e i z o live) = caused_by n k (fate_of w drawn number p q past (moment w s c) h (clock past s c h) (stepped_time c s) (did w s c) n a e i z o live)
     caused_live n k (waiting e z once x o v) = true_false (sym k ∙ x)
     caused_live n k (gone z x o g) = true_false (sym k ∙ x)
 

@@ -6,7 +6,6 @@ use Rattle.std.specs.Option.{option_map}
 use lib.Signed.{lt_z}
 use Rattle.market.specs.declared.side.Side.{Side}
 use Rattle.allocation.proofs.Mates.{turned_twice}
-use Rattle.allocation.specs.declared.cause.EndCause.TheVariants.{Deadline}
 use Rattle.allocation.specs.declared.order.GuaranteeKind.{GuaranteeKind}
 use Rattle.allocation.specs.declared.order.GuaranteeKind.TheVariants.{SingleStop, AutoMatchLimit}
 use Rattle.allocation.specs.declared.response.Kind.{Kind}
@@ -27,29 +26,30 @@ use Rattle.session.proofs.Ending.Apart.{Apart}
 use Rattle.session.proofs.Ending.Waiting.{Once}
 use Rattle.session.proofs.Inputs.{fails_same}
 use Rattle.session.proofs.Linked.{Matches}
+use Rattle.std.specs.Str.{byte}
 
 -- What the clock step does: it moves the time, and no deadline is reached; or it ends the open auction.
 module _ {P Q : Type 0} where
   pub data Stepped (s u : RoomState P Q) : Type 0 where
     kept : (t : ℕ) → u ≡ at_time t s → due t s.current ≡ false → Stepped s u
-    expired : (t : ℕ) (a : OpenAuction) → s.current ≡ Some a → leb a.deadline t ≡ true → u ≡ ended Deadline (at_time t s) → Stepped s u
+    expired : (t : ℕ) (a : OpenAuction) → s.current ≡ Some a → leb a.deadline t ≡ true → u ≡ ended (byte "T") (at_time t s) → Stepped s u
 
-  stepped_due : (b : Bool) (t : ℕ) (o : Option OpenAuction) (s : RoomState P Q) → s.current ≡ o → due t o ≡ b → Stepped s (cond b (ended Deadline (at_time t s)) (at_time t s))
+  stepped_due : (b : Bool) (t : ℕ) (o : Option OpenAuction) (s : RoomState P Q) → s.current ≡ o → due t o ≡ b → Stepped s (cond b (ended (byte "T") (at_time t s)) (at_time t s))
   stepped_due true t None s e h = true_false (sym h)
   stepped_due true t (Some a) s e h = expired t a e h refl
   stepped_due false t o s e h = kept t refl (ap (due t) e ∙ h)
 
-  pub stepped_by : {R : Type 0} (k : Option R) (g : Option ℕ) (s : RoomState P Q) → due s.time s.current ≡ false → Stepped s (clock_stepped k g s)
+  pub stepped_by : (k : Option ℕ) (g : Option ℕ) (s : RoomState P Q) → due s.time s.current ≡ false → Stepped s (clock_stepped k g s)
   stepped_by (Some e) g s h = kept s.time refl h
   stepped_by None None s h = kept s.time refl h
   stepped_by None (Some t) s h = stepped_due (due (max s.time t) s.current) (max s.time t) s.current s refl refl
 
   -- where no time is given, there is no clock step
-  pub unstepped : {R : Type 0} (k : Option R) (s : RoomState P Q) → clock_stepped k None s ≡ s
+  pub unstepped : (k : Option ℕ) (s : RoomState P Q) → clock_stepped k None s ≡ s
   unstepped None s = refl
   unstepped (Some e) s = refl
 
-  clocked_time_by : (b : Bool) (t : ℕ) (s : RoomState P Q) → (cond b (ended Deadline (at_time t s)) (at_time t s)).time ≡ t
+  clocked_time_by : (b : Bool) (t : ℕ) (s : RoomState P Q) → (cond b (ended (byte "T") (at_time t s)) (at_time t s)).time ≡ t
   clocked_time_by true t s = refl
   clocked_time_by false t s = refl
 
@@ -57,18 +57,18 @@ module _ {P Q : Type 0} where
   clocked_time : (s : RoomState P Q) (t : ℕ) → (clocked s t).time ≡ max s.time t
   clocked_time s t = clocked_time_by (due (max s.time t) s.current) (max s.time t) s
 
-  stepped_time_by : {R : Type 0} (k : Option R) (g : Option ℕ) (s : RoomState P Q) → (clock_stepped k g s).time ≡ max s.time (cond (is_some k) 0 (time_or_first g))
+  stepped_time_by : (k : Option ℕ) (g : Option ℕ) (s : RoomState P Q) → (clock_stepped k g s).time ≡ max s.time (cond (is_some k) 0 (time_or_first g))
   stepped_time_by (Some e) g s = omega arith
   stepped_time_by None None s = omega arith
   stepped_time_by None (Some t) s = clocked_time s t
 
   -- by the history's words: that of a timed call that passes its input checks
-  pub stepped_time : {T : Type 0} (F : Type 0) (c : Call T) (s : RoomState P Q) → (clock_stepped (input_refusal {F = F} c) (given_time c) s).time ≡ max s.time (clock_time c)
-  stepped_time F c s =
-      stepped_time_by (input_refusal {F = F} c) (given_time c) s ∙ ap (λ (b : Bool). max s.time (cond b 0 (time_or_first (given_time c)))) (sym (fails_same F c))
+  pub stepped_time : {T : Type 0} (c : Call T) (s : RoomState P Q) → (clock_stepped (input_refusal c) (given_time c) s).time ≡ max s.time (clock_time c)
+  stepped_time c s =
+      stepped_time_by (input_refusal c) (given_time c) s ∙ ap (λ (b : Bool). max s.time (cond b 0 (time_or_first (given_time c)))) (sym (fails_same c))
 
   -- and leaves what neither the time nor an end changes
-  stepped_keeps : {X : Type 0} (f : RoomState P Q → X) → ((t : ℕ) (s : RoomState P Q) → f (at_time t s) ≡ f s) → ((s : RoomState P Q) → f (ended Deadline s) ≡ f s)
+  stepped_keeps : {X : Type 0} (f : RoomState P Q → X) → ((t : ℕ) (s : RoomState P Q) → f (at_time t s) ≡ f s) → ((s : RoomState P Q) → f (ended (byte "T") s) ≡ f s)
       → (s u : RoomState P Q) → Stepped s u → f u ≡ f s
   stepped_keeps f moves ends s u (kept t e h) = ap f e ∙ moves t s
   stepped_keeps f moves ends s u (expired t a c h e) = ap f e ∙ ends (at_time t s) ∙ moves t s

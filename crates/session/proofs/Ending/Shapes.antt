@@ -6,11 +6,9 @@ use lib.Signed.{lt_z}
 use Rattle.std.proofs.lemmas.Bool.Decides.{nat_tests}
 use Rattle.std.proofs.lemmas.Grind.{get_or-set_at}
 use Rattle.std.proofs.lemmas.List.{map-append, get_or-set_other}
-use Rattle.market.specs.declared.refusal.RangeRefusal.{RangeRefusal}
 use Rattle.market.specs.declared.side.Side.{Side}
 use Rattle.market.specs.Range.{RangePrices, permitted}
 use Rattle.market.specs.Turned.{turned}
-use Rattle.allocation.specs.declared.cause.EndCause.TheVariants.{PlainBelowFloor, Halt as Halted}
 use Rattle.allocation.specs.declared.order.PairedOrder.{PairedOrder}
 use Rattle.allocation.specs.declared.response.Response.{Response}
 use Rattle.allocation.specs.Auction.{told_of}
@@ -19,7 +17,6 @@ use Rattle.allocation.specs.FillLaws.{response_told}
 use Rattle.allocation.specs.Table.{is_of, restored, own_changed, without_own, own_response}
 use Rattle.room.specs.declared.answers.ClaimNumbers.{ClaimNumbers}
 use Rattle.room.specs.declared.answers.StoredTerms.{StoredTerms}
-use Rattle.room.specs.declared.refusal.Refusal.{Refusal}
 use Rattle.room.specs.declared.requests.ChangeRequest.{ChangeRequest}
 use Rattle.room.specs.declared.requests.OpeningRequest.{OpeningRequest}
 use Rattle.room.specs.declared.requests.ResponseRequest.{ResponseRequest}
@@ -27,8 +24,8 @@ use Rattle.room.specs.declared.requests.WithdrawRequest.{WithdrawRequest}
 use Rattle.room.specs.Checks.{open_checks, respond_checks, change_checks, withdraw_checks, time_checks, collect_checks}
 use Rattle.room.specs.Clock.{clocked, timed}
 use Rattle.room.specs.Collecting.{collectable, collect_call, collect_rows, fill_rows, waiting_now}
-use Rattle.room.specs.Openings.{opening, opening_range, opened_with, range_told, guarantee_refusal, room_refusal, any_waits}
-use Rattle.room.specs.Refusals.{refuse, unless, outcome}
+use Rattle.room.specs.Openings.{opening, opening_range, opened_with, guarantee_refusal, room_refusal, any_waits}
+use Rattle.room.specs.Refusals.{RefusalTold, refuse, unless, outcome}
 use Rattle.room.specs.Responses.{side_checked, above_checked, in_use_checked, used_checked, responding_to, responding, responded, with_response, as_stored, stored_price, stored_size, terms_told, turned_in, with_counted, standing_now, plain_checked, changing, changing_in, with_change, withdrawing, withdrawing_from, with_withdrawal}
 use Rattle.room.specs.State.{OpenAuction, EndedAuction, RoomState, at_position, with_halted, with_current, with_waiting, ended, is_number, numbered, without_number, used_by, one_more}
 use Rattle.room.specs.Ticks.{ticked, ticking_by, ticking}
@@ -44,6 +41,7 @@ use Rattle.session.proofs.Ending.Lives.{plain_is, unstepped}
 use Rattle.room.proofs.Checked.{TermsInside, opening_sized, response_inside, change_inside}
 use Rattle.room.proofs.Sound.{Sound, each_push, each_changed, each_without, stood_sound, stored_may_stand}
 use Rattle.room.proofs.Tests.{true_false, refuse_none, unless_ok, and_then_ok, ok_err}
+use Rattle.std.specs.Str.{byte}
 
 -- an answer that tells of no auction
 pub record Quiet {T F : Type 0} (c : Call T) (a : Answer F) : Type 0 where
@@ -104,7 +102,7 @@ module _ {P T F Q : Type 0} (w : World P T F Q) where
     pub sound : Sound was.values → Sound now.values
     pub apart : Apart was → Apart now
     pub counts : length was.used ≡ 16 → (ms : List ℕ) → CountsThese ms was → CountsThese (storing_after m.call ms) now
-    pub after_is : m.after ≡ cond (plain_below was.values.order.side was.values.floor m.call) (ended PlainBelowFloor (with_current now m.stepped)) (with_current now m.stepped)
+    pub after_is : m.after ≡ cond (plain_below was.values.order.side was.values.floor m.call) (ended (byte "E") (with_current now m.stepped)) (with_current now m.stepped)
 
   pub data Did (m : Moment P T F Q) : Type 0 where
     -- nothing happens to an auction
@@ -115,7 +113,7 @@ module _ {P T F Q : Type 0} (w : World P T F Q) where
     ticks : (time : ℕ) (x : T) → m.call ≡ Tick time x → m.answer ≡ Accepted
         → m.after ≡ ticked m.stepped.current (w.market.shows (w.market.next m.stepped.position x)) (at_position (w.market.next m.stepped.position x) m.stepped) → Did m
     -- the room is halted
-    halts : (time : ℕ) → m.call ≡ Halt time → m.answer ≡ Accepted → m.after ≡ with_halted true (ended Halted m.stepped) → Did m
+    halts : (time : ℕ) → m.call ≡ Halt time → m.answer ≡ Accepted → m.after ≡ with_halted true (ended (byte "H") m.stepped) → Did m
     collected : CollectedHere m → Did m
 
   -- an auction is opened, or the answer tells of none
@@ -136,23 +134,19 @@ module _ {P T F Q : Type 0} (w : World P T F Q) where
   collected_or_not m (halts t j y f) = inr (ap (λ (v : Answer F). is_collected v) y)
   collected_or_not m (collected d) = inl d
 
-  refused_quiet : (c : Call T) (e : Refusal F) → Quiet {F = F} c (Refused e)
+  refused_quiet : (c : Call T) (e : RefusalTold F) → Quiet {F = F} c (Refused e)
   refused_quiet c e = record { opens_none = refl; stores_none = refl; collects_none = refl; ticks_none = refl; halts_none = refl }
 
   -- Opening.
-  range_told_ok : (y : Result RangePrices RangeRefusal) (r : RangePrices) → range_told {F = F} y ≡ Ok r → y ≡ Ok r
-  range_told_ok (Ok x) r h = let e : x ≡ r = cc in ap Ok e
-  range_told_ok (Err e) r h = ok_err r _ (sym h)
-
   opening_ok : (s : RoomState P Q) (o : PairedOrder) (r : RangePrices) → opening_range w s o ≡ Ok r
       → (permitted o.side o.limit (w.market.shows s.position) ≡ Ok r) × (lt_z r.initiating (turned o.side o.guarantee.price) ≡ false)
   opening_ok s o r h =
       let past = unless_ok (room_refusal s.halted s.waiting) _ r h in
-      let found = and_then_ok (range_told (permitted o.side o.limit (w.market.shows s.position))) _ r past.1 in
+      let found = and_then_ok (permitted o.side o.limit (w.market.shows s.position)) _ r past.1 in
       let last = unless_ok (guarantee_refusal o s.opened found.0) (Ok found.0) r found.2 in
       let same : found.0 ≡ r = let e = last.1 in cc in
       let below = (refuse_none (lt_z found.0.initiating (turned o.side o.guarantee.price)) 16 _ last.0).0 in (
-        range_told_ok (permitted o.side o.limit (w.market.shows s.position)) r (found.1 ∙ ap Ok same),
+        found.1 ∙ ap Ok same,
         subst (λ (z : RangePrices). lt_z z.initiating (turned o.side o.guarantee.price) ≡ false) same below,
       )
 
@@ -166,24 +160,24 @@ module _ {P T F Q : Type 0} (w : World P T F Q) where
       let past = unless_ok (room_refusal s.halted s.waiting) _ r h in
       none_waiting s.waiting (refuse_none (any_waits s.waiting) 13 None (refuse_none s.halted 12 _ past.0).1).0
 
-  abbrev opening_moment : RoomState P Q → RoomState P Q → OpeningRequest → Result RangePrices (Refusal F) → Moment P T F Q
+  abbrev opening_moment : RoomState P Q → RoomState P Q → OpeningRequest → Result RangePrices ℕ → Moment P T F Q
   opening_moment s u x y =
       let z = outcome y u (opened_with w u x.order) (λ _. record { room = u.number; auction = u.opened + 1 }) in
       record { call = Open x; before = s; stepped = u; after = z.0; answer = answered Opened z.1 }
 
-  did_opening : (s u : RoomState P Q) (x : OpeningRequest) (y : Result RangePrices (Refusal F)) → opening_range w u x.order ≡ y → leb 1 x.order.size ≡ true → Did (opening_moment s u x y)
+  did_opening : (s u : RoomState P Q) (x : OpeningRequest) (y : Result RangePrices ℕ) → opening_range w u x.order ≡ y → leb 1 x.order.size ≡ true → Did (opening_moment s u x y)
   did_opening s u x (Ok r) e k = let ok = opening_ok u x.order r e in
       opened (record { request = x; range = r; call_is = refl; answer_is = refl; after_is = refl; permitted_then = ok.0; guaranteed = ok.1; sized = k; none_waited = opening_alone u x.order r e })
-  did_opening s u x (Err f) e k = idle u.halted refl refl (refused_quiet (Open x) f)
+  did_opening s u x (Err f) e k = idle u.halted refl refl (refused_quiet (Open x) _)
 
-  abbrev open_moment : RoomState P Q → OpeningRequest → Option (Refusal F) → Moment P T F Q
+  abbrev open_moment : RoomState P Q → OpeningRequest → Option ℕ → Moment P T F Q
   open_moment s x k =
       let z = answering Opened (timed k s x.time (λ u. opening w u x.order)) in
       record { call = Open x; before = s; stepped = clock_stepped k (Some x.time) s; after = z.0; answer = z.1 }
 
-  did_open : (s : RoomState P Q) (x : OpeningRequest) (k : Option (Refusal F)) → open_checks {F = F} x ≡ k → Did (open_moment s x k)
-  did_open s x None e = did_opening s (clocked s x.time) x (opening_range w (clocked s x.time) x.order) refl (opening_sized F x e)
-  did_open s x (Some f) e = idle s.halted refl refl (refused_quiet (Open x) f)
+  did_open : (s : RoomState P Q) (x : OpeningRequest) (k : Option ℕ) → open_checks x ≡ k → Did (open_moment s x k)
+  did_open s x None e = did_opening s (clocked s x.time) x (opening_range w (clocked s x.time) x.order) refl (opening_sized x e)
+  did_open s x (Some f) e = idle s.halted refl refl (refused_quiet (Open x) _)
 
   -- Ticks.
   abbrev ticking_moment : RoomState P Q → RoomState P Q → ℕ → T → Result (Unit {0}) F → Moment P T F Q
@@ -195,30 +189,30 @@ module _ {P T F Q : Type 0} (w : World P T F Q) where
   did_ticking s u t x (Ok k) = ticks t x refl refl refl
   did_ticking s u t x (Err f) = idle u.halted refl refl (refused_quiet (Tick t x) _)
 
-  abbrev timed_moment : (Y : Type 0) → RoomState P Q → Call T → ℕ → (Y → Answer F) → (RoomState P Q → RoomState P Q × Result Y (Refusal F)) → Option (Refusal F) → Moment P T F Q
+  abbrev timed_moment : (Y : Type 0) → RoomState P Q → Call T → ℕ → (Y → Answer F) → (RoomState P Q → RoomState P Q × Result Y (RefusalTold F)) → Option ℕ → Moment P T F Q
   timed_moment Y s c t f business k =
       let z = answering f (timed k s t business) in
       record { call = c; before = s; stepped = clock_stepped k (Some t) s; after = z.0; answer = z.1 }
 
-  did_tick : (s : RoomState P Q) (t : ℕ) (x : T) (k : Option (Refusal F)) → Did (timed_moment (Unit {0}) s (Tick t x) t (λ _. Accepted) (λ u. ticking w u x) k)
+  did_tick : (s : RoomState P Q) (t : ℕ) (x : T) (k : Option ℕ) → Did (timed_moment (Unit {0}) s (Tick t x) t (λ _. Accepted) (λ u. ticking w u x) k)
   did_tick s t x None = let u = clocked s t in did_ticking s u t x (w.market.answer u.position x)
-  did_tick s t x (Some f) = idle s.halted refl refl (refused_quiet (Tick t x) f)
+  did_tick s t x (Some f) = idle s.halted refl refl (refused_quiet (Tick t x) _)
 
   -- Halts, resumes and clock calls.
-  did_halt : (s : RoomState P Q) (t : ℕ) (k : Option (Refusal F)) → Did (timed_moment (Unit {0}) s (Halt t) t (λ _. Accepted) (λ u. (with_halted true (ended Halted u), Ok tt)) k)
+  did_halt : (s : RoomState P Q) (t : ℕ) (k : Option ℕ) → Did (timed_moment (Unit {0}) s (Halt t) t (λ _. Accepted) (λ u. (with_halted true (ended (byte "H") u), Ok tt)) k)
   did_halt s t None = halts t refl refl refl
-  did_halt s t (Some f) = idle s.halted refl refl (refused_quiet (Halt t) f)
+  did_halt s t (Some f) = idle s.halted refl refl (refused_quiet (Halt t) _)
 
   accepted_quiet : (c : Call T) → tick_in c ≡ None → is_halt c ≡ false → Quiet {F = F} c Accepted
   accepted_quiet c h k = record { opens_none = refl; stores_none = refl; collects_none = refl; ticks_none = ap is_some h; halts_none = k }
 
-  did_resume : (s : RoomState P Q) (t : ℕ) (k : Option (Refusal F)) → Did (timed_moment (Unit {0}) s (Resume t) t (λ _. Accepted) (λ u. (with_halted false u, Ok tt)) k)
+  did_resume : (s : RoomState P Q) (t : ℕ) (k : Option ℕ) → Did (timed_moment (Unit {0}) s (Resume t) t (λ _. Accepted) (λ u. (with_halted false u, Ok tt)) k)
   did_resume s t None = idle false refl refl (accepted_quiet (Resume t) refl refl)
-  did_resume s t (Some f) = idle s.halted refl refl (refused_quiet (Resume t) f)
+  did_resume s t (Some f) = idle s.halted refl refl (refused_quiet (Resume t) _)
 
-  did_clock : (s : RoomState P Q) (t : ℕ) (k : Option (Refusal F)) → Did (timed_moment (Unit {0}) s (Clock t) t (λ _. Accepted) (λ u. (u, Ok tt)) k)
+  did_clock : (s : RoomState P Q) (t : ℕ) (k : Option ℕ) → Did (timed_moment (Unit {0}) s (Clock t) t (λ _. Accepted) (λ u. (u, Ok tt)) k)
   did_clock s t None = idle (clocked s t).halted refl refl (accepted_quiet (Clock t) refl refl)
-  did_clock s t (Some f) = idle s.halted refl refl (refused_quiet (Clock t) f)
+  did_clock s t (Some f) = idle s.halted refl refl (refused_quiet (Clock t) _)
 
   -- Responses. The table as told, with one changed, one withdrawn.
   told_changed : (side : Side) (m o size : ℕ) (z : ℤ) (n : ℕ) (xs : List Response)
@@ -258,34 +252,34 @@ module _ {P T F Q : Type 0} (w : World P T F Q) where
       record { all = omega arith; of_each = λ k h g. more_of (eqb member k) member k a.used ms refl i l h (c.of_each member low high) (c.of_each k h g) }
 
   -- an accepted response found the auction open, is not above the initiating price, and has an own number that is free
-  responding_ok : (c : Option OpenAuction) (x : ResponseRequest) (a : OpenAuction) → responding_to {F = F} c x ≡ Ok a
+  responding_ok : (c : Option OpenAuction) (x : ResponseRequest) (a : OpenAuction) → responding_to c x ≡ Ok a
       → (c ≡ Some a) × (lt_z a.values.initiating (turned_in a x.price) ≡ false) × (is_some (own_response x.member x.own a.values.stood) ≡ false)
   responding_ok None x a h = ok_err a _ (sym h)
   responding_ok (Some b) x a h =
-      let past = unless_ok (side_checked {F = F} b x.side (above_checked b x.price (in_use_checked b x.member x.own (used_checked b x.member None)))) (Ok b) a h in
+      let past = unless_ok (side_checked b x.side (above_checked b x.price (in_use_checked b x.member x.own (used_checked b x.member None)))) (Ok b) a h in
       let same : b ≡ a = let e = past.1 in cc in
-      let side = refuse_none {F = F} _ 22 (above_checked b x.price (in_use_checked b x.member x.own (used_checked b x.member None))) past.0 in
-      let above = refuse_none {F = F} (lt_z b.values.initiating (turned_in b x.price)) 23 (in_use_checked b x.member x.own (used_checked b x.member None)) side.1 in
-      let free = refuse_none {F = F} (is_some (own_response x.member x.own b.values.stood)) 24 (used_checked b x.member None) above.1 in (
+      let side = refuse_none _ 22 (above_checked b x.price (in_use_checked b x.member x.own (used_checked b x.member None))) past.0 in
+      let above = refuse_none (lt_z b.values.initiating (turned_in b x.price)) 23 (in_use_checked b x.member x.own (used_checked b x.member None)) side.1 in
+      let free = refuse_none (is_some (own_response x.member x.own b.values.stood)) 24 (used_checked b x.member None) above.1 in (
         ap Some same,
         subst (λ (z : OpenAuction). lt_z z.values.initiating (turned_in z x.price) ≡ false) same above.0,
         subst (λ (z : OpenAuction). is_some (own_response x.member x.own z.values.stood) ≡ false) same free.0,
       )
 
   -- a stored response may stand
-  response_sound : (a : OpenAuction) (x : ResponseRequest) → TermsInside F x.size x.member x.own → lt_z a.values.initiating (turned_in a x.price) ≡ false → Sound a.values → Sound (with_response a x).values
+  response_sound : (a : OpenAuction) (x : ResponseRequest) → TermsInside x.size x.member x.own → lt_z a.values.initiating (turned_in a x.price) ≡ false → Sound a.values → Sound (with_response a x).values
   response_sound a x i k h =
       let ok = stored_may_stand a.values.order.size a.values.floor a.values.initiating x.size (turned_in a x.price) h.sized h.in_order i.sized k in
       let good : response_ok a.values.order.size a.values.floor a.values.initiating (as_stored a x) ≡ true =
       and_from (from_to 1 16 x.member) _ i.member_inside (and_from (from_to 1 4 x.own) _ i.own_inside ok) in
       stood_sound a.values (a.values.stood ++ as_stored a x ∷ []) h (each_push (response_ok a.values.order.size a.values.floor a.values.initiating) a.values.stood (as_stored a x) h.standing good)
 
-  abbrev responding_moment : RoomState P Q → RoomState P Q → ResponseRequest → Result OpenAuction (Refusal F) → Moment P T F Q
+  abbrev responding_moment : RoomState P Q → RoomState P Q → ResponseRequest → Result OpenAuction ℕ → Moment P T F Q
   responding_moment s u x y =
       let z = outcome y u (λ a. responded u a x) (λ a. terms_told a (stored_price a x.price) (stored_size a x.size)) in
       record { call = Respond x; before = s; stepped = u; after = z.0; answer = answered Stored z.1 }
 
-  did_responding : (s u : RoomState P Q) (x : ResponseRequest) (y : Result OpenAuction (Refusal F)) → responding_to {F = F} u.current x ≡ y → TermsInside F x.size x.member x.own → Did (responding_moment s u x y)
+  did_responding : (s u : RoomState P Q) (x : ResponseRequest) (y : Result OpenAuction ℕ) → responding_to u.current x ≡ y → TermsInside x.size x.member x.own → Did (responding_moment s u x y)
   did_responding s u x (Ok a) e i =
       let ok = responding_ok u.current x a e in
       stored (record {
@@ -300,36 +294,36 @@ module _ {P T F Q : Type 0} (w : World P T F Q) where
         sound = response_sound a x i ok.1;
         apart = apart_response a x ok.2;
         counts = counts_more a x.member (a.values.stood ++ as_stored a x ∷ []) i.member_inside;
-        after_is = ap (λ (b : Bool). cond b (ended PlainBelowFloor (with_current (with_response a x) u)) (with_current (with_response a x) u)) (sym (plain_is x.kind (lt_z (turned a.values.order.side x.price) a.values.floor)));
+        after_is = ap (λ (b : Bool). cond b (ended (byte "E") (with_current (with_response a x) u)) (with_current (with_response a x) u)) (sym (plain_is x.kind (lt_z (turned a.values.order.side x.price) a.values.floor)));
       })
-  did_responding s u x (Err f) e i = idle u.halted refl refl (refused_quiet (Respond x) f)
+  did_responding s u x (Err f) e i = idle u.halted refl refl (refused_quiet (Respond x) _)
 
-  did_respond : (s : RoomState P Q) (x : ResponseRequest) (k : Option (Refusal F)) → respond_checks {F = F} x ≡ k → Did (timed_moment StoredTerms s (Respond x) x.time Stored (λ u. responding u x) k)
-  did_respond s x None e = let u = clocked s x.time in did_responding s u x (responding_to u.current x) refl (response_inside F x e)
-  did_respond s x (Some f) e = idle s.halted refl refl (refused_quiet (Respond x) f)
+  did_respond : (s : RoomState P Q) (x : ResponseRequest) (k : Option ℕ) → respond_checks x ≡ k → Did (timed_moment StoredTerms s (Respond x) x.time Stored (λ u. responding u x) k)
+  did_respond s x None e = let u = clocked s x.time in did_responding s u x (responding_to u.current x) refl (response_inside x e)
+  did_respond s x (Some f) e = idle s.halted refl refl (refused_quiet (Respond x) _)
 
   -- Changes.
-  changing_ok : (c : Option OpenAuction) (x : ChangeRequest) (a : OpenAuction) → changing_in {F = F} c x ≡ Ok a → (c ≡ Some a) × (lt_z a.values.initiating (turned_in a x.price) ≡ false)
+  changing_ok : (c : Option OpenAuction) (x : ChangeRequest) (a : OpenAuction) → changing_in c x ≡ Ok a → (c ≡ Some a) × (lt_z a.values.initiating (turned_in a x.price) ≡ false)
   changing_ok None x a h = ok_err a _ (sym h)
   changing_ok (Some b) x a h =
-      let found = and_then_ok (standing_now {F = F} (own_response x.member x.own b.values.stood)) (λ y. unless (plain_checked y (above_checked b x.price (used_checked b x.member None))) (Ok b)) a h in
-      let past = unless_ok (plain_checked {F = F} found.0 (above_checked b x.price (used_checked b x.member None))) (Ok b) a found.2 in
+      let found = and_then_ok (standing_now (own_response x.member x.own b.values.stood)) (λ y. unless (plain_checked y (above_checked b x.price (used_checked b x.member None))) (Ok b)) a h in
+      let past = unless_ok (plain_checked found.0 (above_checked b x.price (used_checked b x.member None))) (Ok b) a found.2 in
       let same : b ≡ a = let e = past.1 in cc in
-      let plain = refuse_none {F = F} _ 26 (above_checked b x.price (used_checked b x.member None)) past.0 in
-      let above = refuse_none {F = F} (lt_z b.values.initiating (turned_in b x.price)) 23 (used_checked b x.member None) plain.1 in
+      let plain = refuse_none _ 26 (above_checked b x.price (used_checked b x.member None)) past.0 in
+      let above = refuse_none (lt_z b.values.initiating (turned_in b x.price)) 23 (used_checked b x.member None) plain.1 in
       (ap Some same, subst (λ (z : OpenAuction). lt_z z.values.initiating (turned_in z x.price) ≡ false) same above.0)
 
-  change_sound : (a : OpenAuction) (x : ChangeRequest) → TermsInside F x.size x.member x.own → lt_z a.values.initiating (turned_in a x.price) ≡ false → Sound a.values → Sound (with_change a x).values
+  change_sound : (a : OpenAuction) (x : ChangeRequest) → TermsInside x.size x.member x.own → lt_z a.values.initiating (turned_in a x.price) ≡ false → Sound a.values → Sound (with_change a x).values
   change_sound a x i k h =
       let ok = stored_may_stand a.values.order.size a.values.floor a.values.initiating x.size (turned_in a x.price) h.sized h.in_order i.sized k in
       stood_sound a.values _ h (each_changed x.member x.own a.values.order.size a.values.floor a.values.initiating (stored_size a x.size) (stored_price a x.price) (a.arrivals + 1) a.values.stood ok h.standing)
 
-  abbrev changing_moment : RoomState P Q → RoomState P Q → ChangeRequest → Result OpenAuction (Refusal F) → Moment P T F Q
+  abbrev changing_moment : RoomState P Q → RoomState P Q → ChangeRequest → Result OpenAuction ℕ → Moment P T F Q
   changing_moment s u x y =
       let z = outcome y u (λ a. with_current (with_change a x) u) (λ a. terms_told a (stored_price a x.price) (stored_size a x.size)) in
       record { call = Change x; before = s; stepped = u; after = z.0; answer = answered Stored z.1 }
 
-  did_changing : (s u : RoomState P Q) (x : ChangeRequest) (y : Result OpenAuction (Refusal F)) → changing_in {F = F} u.current x ≡ y → TermsInside F x.size x.member x.own → Did (changing_moment s u x y)
+  did_changing : (s u : RoomState P Q) (x : ChangeRequest) (y : Result OpenAuction ℕ) → changing_in u.current x ≡ y → TermsInside x.size x.member x.own → Did (changing_moment s u x y)
   did_changing s u x (Ok a) e i =
       let ok = changing_ok u.current x a e in
       let changed = own_changed x.member x.own (stored_size a x.size) (stored_price a x.price) (a.arrivals + 1) a.values.stood in
@@ -347,27 +341,27 @@ module _ {P T F Q : Type 0} (w : World P T F Q) where
         counts = counts_more a x.member changed i.member_inside;
         after_is = refl;
       })
-  did_changing s u x (Err f) e i = idle u.halted refl refl (refused_quiet (Change x) f)
+  did_changing s u x (Err f) e i = idle u.halted refl refl (refused_quiet (Change x) _)
 
-  did_change : (s : RoomState P Q) (x : ChangeRequest) (k : Option (Refusal F)) → change_checks {F = F} x ≡ k → Did (timed_moment StoredTerms s (Change x) x.time Stored (λ u. changing u x) k)
-  did_change s x None e = let u = clocked s x.time in did_changing s u x (changing_in u.current x) refl (change_inside F x e)
-  did_change s x (Some f) e = idle s.halted refl refl (refused_quiet (Change x) f)
+  did_change : (s : RoomState P Q) (x : ChangeRequest) (k : Option ℕ) → change_checks x ≡ k → Did (timed_moment StoredTerms s (Change x) x.time Stored (λ u. changing u x) k)
+  did_change s x None e = let u = clocked s x.time in did_changing s u x (changing_in u.current x) refl (change_inside x e)
+  did_change s x (Some f) e = idle s.halted refl refl (refused_quiet (Change x) _)
 
   -- Withdrawals.
-  withdrawing_ok : (c : Option OpenAuction) (x : WithdrawRequest) (f : OpenAuction × Response) → withdrawing_from {F = F} c x ≡ Ok f → c ≡ Some f.0
+  withdrawing_ok : (c : Option OpenAuction) (x : WithdrawRequest) (f : OpenAuction × Response) → withdrawing_from c x ≡ Ok f → c ≡ Some f.0
   withdrawing_ok None x f h = ok_err f _ (sym h)
   withdrawing_ok (Some b) x f h =
-      let found = and_then_ok (standing_now {F = F} (own_response x.member x.own b.values.stood)) (λ y. unless (plain_checked y None) (Ok (b, y))) f h in
-      let past = unless_ok (plain_checked {F = F} found.0 None) (Ok (b, found.0)) f found.2 in
+      let found = and_then_ok (standing_now (own_response x.member x.own b.values.stood)) (λ y. unless (plain_checked y None) (Ok (b, y))) f h in
+      let past = unless_ok (plain_checked found.0 None) (Ok (b, found.0)) f found.2 in
       let same : (b, found.0) ≡ f = let e = past.1 in cc in
       ap (λ (z : OpenAuction × Response). Some z.0) same
 
-  abbrev withdrawing_moment : RoomState P Q → RoomState P Q → WithdrawRequest → Result (OpenAuction × Response) (Refusal F) → Moment P T F Q
+  abbrev withdrawing_moment : RoomState P Q → RoomState P Q → WithdrawRequest → Result (OpenAuction × Response) ℕ → Moment P T F Q
   withdrawing_moment s u x y =
       let z = outcome y u (λ f. with_current (with_withdrawal f.0 x) u) (λ f. terms_told f.0 f.1.price f.1.size) in
       record { call = Withdraw x; before = s; stepped = u; after = z.0; answer = answered Stored z.1 }
 
-  did_withdrawing : (s u : RoomState P Q) (x : WithdrawRequest) (y : Result (OpenAuction × Response) (Refusal F)) → withdrawing_from {F = F} u.current x ≡ y → Did (withdrawing_moment s u x y)
+  did_withdrawing : (s u : RoomState P Q) (x : WithdrawRequest) (y : Result (OpenAuction × Response) ℕ) → withdrawing_from u.current x ≡ y → Did (withdrawing_moment s u x y)
   did_withdrawing s u x (Ok f) e =
       let a = f.0 in
       stored (record {
@@ -384,29 +378,29 @@ module _ {P T F Q : Type 0} (w : World P T F Q) where
         counts = λ l ms c. record { all = c.all; of_each = c.of_each };
         after_is = refl;
       })
-  did_withdrawing s u x (Err f) e = idle u.halted refl refl (refused_quiet (Withdraw x) f)
+  did_withdrawing s u x (Err f) e = idle u.halted refl refl (refused_quiet (Withdraw x) _)
 
-  did_withdraw : (s : RoomState P Q) (x : WithdrawRequest) (k : Option (Refusal F)) → Did (timed_moment StoredTerms s (Withdraw x) x.time Stored (λ u. withdrawing u x) k)
+  did_withdraw : (s : RoomState P Q) (x : WithdrawRequest) (k : Option ℕ) → Did (timed_moment StoredTerms s (Withdraw x) x.time Stored (λ u. withdrawing u x) k)
   did_withdraw s x None = let u = clocked s x.time in did_withdrawing s u x (withdrawing_from u.current x) refl
-  did_withdraw s x (Some f) = idle s.halted refl refl (refused_quiet (Withdraw x) f)
+  did_withdraw s x (Some f) = idle s.halted refl refl (refused_quiet (Withdraw x) _)
 
   -- Collecting.
-  waiting_ok : (o : Option EndedAuction) (e : EndedAuction) → waiting_now {F = F} o ≡ Ok e → o ≡ Some e
+  waiting_ok : (o : Option EndedAuction) (e : EndedAuction) → waiting_now o ≡ Ok e → o ≡ Some e
   waiting_ok None e h = ok_err e _ (sym h)
   waiting_ok (Some x) e h = let same : x ≡ e = cc in ap Some same
 
-  collect_ok : (s : RoomState P Q) (c : ClaimNumbers) (n : ℕ) (e : EndedAuction) → collectable {F = F} s c n ≡ Ok e → numbered c.auction s.waiting ≡ Some e
+  collect_ok : (s : RoomState P Q) (c : ClaimNumbers) (n : ℕ) (e : EndedAuction) → collectable s c n ≡ Ok e → numbered c.auction s.waiting ≡ Some e
   collect_ok s c n e h =
-      let long = unless_ok (collect_checks {F = F} n) _ e h in
-      let ours = unless_ok (refuse {F = F} (not (eqb c.room s.number)) 42 (refuse (is_number c.auction s.current) 41 None)) _ e long.1 in
+      let long = unless_ok (collect_checks n) _ e h in
+      let ours = unless_ok (refuse (not (eqb c.room s.number)) 42 (refuse (is_number c.auction s.current) 41 None)) _ e long.1 in
       waiting_ok (numbered c.auction s.waiting) e ours.1
 
-  abbrev collecting_moment : RoomState P Q → ClaimNumbers → ℕ → RoomState P Q → Result EndedAuction (Refusal F) → Moment P T F Q
+  abbrev collecting_moment : RoomState P Q → ClaimNumbers → ℕ → RoomState P Q → Result EndedAuction ℕ → Moment P T F Q
   collecting_moment s c n u y =
       let z = outcome y s (λ e. with_waiting (without_number c.auction s.waiting) s) (λ e. record { count = length (fill_rows w e); cause = e.cause }) in
       record { call = Collect c n; before = s; stepped = u; after = z.0; answer = answered (λ k. Collected k (Rattle.room.specs.Collecting.written w y)) z.1 }
 
-  did_collecting : (s u : RoomState P Q) (c : ClaimNumbers) (n : ℕ) (y : Result EndedAuction (Refusal F)) → u ≡ s → collectable {F = F} s c n ≡ y → Did (collecting_moment s c n u y)
+  did_collecting : (s u : RoomState P Q) (c : ClaimNumbers) (n : ℕ) (y : Result EndedAuction ℕ) → u ≡ s → collectable s c n ≡ y → Did (collecting_moment s c n u y)
   did_collecting s u c n (Ok e) h k =
       collected (record {
         claim = c;
@@ -418,7 +412,7 @@ module _ {P T F Q : Type 0} (w : World P T F Q) where
         after_is = sym (ap (λ (z : RoomState P Q). with_waiting (without_number c.auction z.waiting) z) h);
         waited = ap (λ (z : RoomState P Q). numbered c.auction z.waiting) h ∙ collect_ok s c n e k;
       })
-  did_collecting s u c n (Err f) h k = idle s.halted (ap (λ (z : RoomState P Q). z.halted) (sym h)) (sym (ap (λ (z : RoomState P Q). with_halted s.halted z) h)) (refused_quiet (Collect c n) f)
+  did_collecting s u c n (Err f) h k = idle s.halted (ap (λ (z : RoomState P Q). z.halted) (sym h)) (sym (ap (λ (z : RoomState P Q). with_halted s.halted z) h)) (refused_quiet (Collect c n) _)
 
   looked_quiet : (v : _) → Quiet {T = T} {F = F} Look (Looked v)
   looked_quiet v = record { opens_none = refl; stores_none = refl; collects_none = refl; ticks_none = refl; halts_none = refl }
@@ -434,4 +428,4 @@ module _ {P T F Q : Type 0} (w : World P T F Q) where
   did s (Resume t) = did_resume s t (time_checks t)
   did s (Clock t) = did_clock s t (time_checks t)
   did s Look = idle s.halted refl refl (looked_quiet _)
-  did s (Collect c n) = did_collecting s (clock_stepped (collect_checks {F = F} n) None s) c n (collectable s c n) (unstepped (collect_checks n) s) refl
+  did s (Collect c n) = did_collecting s (clock_stepped (collect_checks n) None s) c n (collectable s c n) (unstepped (collect_checks n) s) refl

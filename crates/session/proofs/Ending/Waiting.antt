@@ -2,13 +2,12 @@
 use Rattle.std.proofs.Common.{◌≡◌, ℕ, ◌+◌, Bool, true, false, cond, eqb, List, [], ◌∷◌, ◌++◌, length, Some, None, Option, sym, refl, ap, ◌∙◌, arith}
 use Rattle.std.proofs.lemmas.Bool.Decides.{nat_tests}
 use Rattle.std.proofs.lemmas.List.{length_push}
-use Rattle.allocation.specs.declared.cause.EndCause.{EndCause}
 use Rattle.room.specs.State.{OpenAuction, EndedAuction, closed, is_number, numbered, without_number}
 use Rattle.room.proofs.Tests.{none_some, true_false}
 use Rattle.session.proofs.Choices.{cond_some_none}
 
 -- an auction as it waits
-abbrev pub as_ended : EndCause → OpenAuction → EndedAuction
+abbrev pub as_ended : ℕ → OpenAuction → EndedAuction
 as_ended c a = record { number = a.number; values = a.values; cause = c }
 
 -- at most one of this number waits
@@ -90,11 +89,11 @@ pub once_without_other : (k n : ℕ) (es : List EndedAuction) → eqb k n ≡ fa
 once_without_other k n es h o = ap (numbered n) (without_swap k n es h) ∙ numbered_without_other k n (without_number n es) h ∙ o
 
 -- an open auction of another number, or none, that ends
-pub closed_other : (c : EndCause) (n : ℕ) (o : Option OpenAuction) (es : List EndedAuction) → is_number n o ≡ false → numbered n (closed c o es) ≡ numbered n es
+pub closed_other : (c : ℕ) (n : ℕ) (o : Option OpenAuction) (es : List EndedAuction) → is_number n o ≡ false → numbered n (closed c o es) ≡ numbered n es
 closed_other c n None es h = refl
 closed_other c n (Some a) es h = numbered_other n es (as_ended c a) h
 
-pub once_closed : (c : EndCause) (n : ℕ) (o : Option OpenAuction) (es : List EndedAuction) → is_number n o ≡ false → Once n es → Once n (closed c o es)
+pub once_closed : (c : ℕ) (n : ℕ) (o : Option OpenAuction) (es : List EndedAuction) → is_number n o ≡ false → Once n es → Once n (closed c o es)
 once_closed c n None es h k = k
 once_closed c n (Some a) es h k = once_other n es (as_ended c a) h k
 
@@ -107,5 +106,5 @@ pub without_length : (n : ℕ) (es : List EndedAuction) (e : EndedAuction) → n
 without_length n [] e h = none_some e h
 without_length n (x ∷ xs) e h = without_length_at (eqb x.number n) n x e xs (without_length n xs e) h
 
-pub closed_length : (c : EndCause) (a : OpenAuction) (es : List EndedAuction) → length (closed c (Some a) es) ≡ length es + 1
+pub closed_length : (c : ℕ) (a : OpenAuction) (es : List EndedAuction) → length (closed c (Some a) es) ≡ length es + 1
 closed_length c a es = length_push es (as_ended c a)

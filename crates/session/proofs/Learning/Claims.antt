@@ -2,15 +2,12 @@
 -- whether a collecting is accepted follows from which auctions wait.
 use Rattle.std.proofs.Common.{◌≡◌, ◌⊎◌, inl, inr, ℕ, ◌+◌, Bool, true, false, cond, not, eqb, List, [], ◌∷◌, ◌++◌, is_some, Some, None, Ok, Err, Option, Result, sym, refl, ap, ◌∙◌, max}
 use Rattle.std.specs.Option.{option_map}
-use Rattle.allocation.specs.declared.cause.EndCause.TheVariants.{Deadline}
 use Rattle.allocation.specs.declared.fill.FillRow.{FillRow}
 use Rattle.room.specs.declared.answers.ClaimNumbers.{ClaimNumbers}
-use Rattle.room.specs.declared.answers.Collection.{Collection}
-use Rattle.room.specs.declared.refusal.Refusal.{Refusal}
 use Rattle.room.specs.declared.requests.OpeningRequest.{OpeningRequest}
 use Rattle.room.specs.Checks.{collect_checks}
 use Rattle.room.specs.Clock.{due}
-use Rattle.room.specs.Collecting.{waiting_now, collect_rows}
+use Rattle.room.specs.Collecting.{CollectionTold, waiting_now, collect_rows}
 use Rattle.room.specs.Refusals.{refuse, unless, outcome}
 use Rattle.room.specs.State.{EndedAuction, RoomState, is_number, numbered, at_time, ended}
 use Rattle.room.specs.World.{World}
@@ -27,6 +24,7 @@ use Rattle.session.proofs.Learning.Hidden.{without_hidden}
 use Rattle.session.proofs.Learning.Known.{Known, known, numbers, numbered_known, waiting_known, collectable_known}
 use Rattle.session.proofs.Learning.OthersCalls.{is_number_follows}
 use Rattle.session.proofs.Learning.OwnRows.{numbered_follows}
+use Rattle.std.specs.Str.{byte}
 
 -- What is accepted.
 abbrev is_ok : {X R : Type 0} → Result X R → Bool
@@ -48,7 +46,7 @@ purse_known F opens k (Halt t) purse = purse
 purse_known F opens k (Resume t) purse = purse
 purse_known F opens k (Clock t) purse = purse
 purse_known F opens k Look purse = purse
-purse_known F opens k (Collect c n) purse = cond (is_ok (collectable_known {F = F} k c n)) (without_claim c purse) purse
+purse_known F opens k (Collect c n) purse = cond (is_ok (collectable_known k c n)) (without_claim c purse) purse
 
 -- What is hidden does not tell whether a call is made.
 pub hidden_made : {T : Type 0} (u : ℕ) (c : Call T) (purse : List ClaimNumbers) → is_made (without_hidden u c) purse ≡ is_made c purse
@@ -77,11 +75,11 @@ module _ {P Q : Type 0} where
   abbrev next_claim : RoomState P Q → ClaimNumbers
   next_claim s = claim_to s.number (s.opened + 1)
 
-  due_leaves : (b : Bool) (s : RoomState P Q) → next_claim (cond b (ended Deadline s) s) ≡ next_claim s
+  due_leaves : (b : Bool) (s : RoomState P Q) → next_claim (cond b (ended (byte "T") s) s) ≡ next_claim s
   due_leaves true s = refl
   due_leaves false s = refl
 
-  stepped_leaves : {R : Type 0} (r : Option R) (t : Option ℕ) (s : RoomState P Q) → next_claim (clock_stepped r t s) ≡ next_claim s
+  stepped_leaves : (r : Option ℕ) (t : Option ℕ) (s : RoomState P Q) → next_claim (clock_stepped r t s) ≡ next_claim s
   stepped_leaves (Some e) t s = refl
   stepped_leaves None None s = refl
   stepped_leaves None (Some t) s = due_leaves (due (max s.time t) s.current) (at_time (max s.time t) s)
@@ -101,21 +99,21 @@ module _ {P T F Q : Type 0} (w : World P T F Q) (u : ℕ) (s : RoomState P Q) wh
   opening_adds x = opening_adds_by x (opened_or_not w (moment w s (Open x)) (did w s (Open x)))
 
   -- A collecting.
-  collects_by : (a b : Option (Refusal F)) (o : Option EndedAuction) (effect : EndedAuction → RoomState P Q) (tells : EndedAuction → Collection) (fs : List FillRow)
-      → is_collected (answered (λ k. Collected k fs) (outcome (unless a (unless b (waiting_now {F = F} o))) s effect tells).1)
-      ≡ is_ok (unless a (unless b (waiting_known {F = F} (option_map (λ (e : EndedAuction). e.number) o))))
+  collects_by : (a b : Option ℕ) (o : Option EndedAuction) (effect : EndedAuction → RoomState P Q) (tells : EndedAuction → CollectionTold) (fs : List FillRow)
+      → is_collected (answered {F = F} (λ k. Collected k fs) (outcome (unless a (unless b (waiting_now o))) s effect tells).1)
+      ≡ is_ok (unless a (unless b (waiting_known (option_map (λ (e : EndedAuction). e.number) o))))
   collects_by (Some f) b o effect tells fs = refl
   collects_by None (Some f) o effect tells fs = refl
   collects_by None None None effect tells fs = refl
   collects_by None None (Some e) effect tells fs = refl
 
-  collecting_known : (c : ClaimNumbers) (n : ℕ) → is_collected (step w s (Collect c n)).1 ≡ is_ok (collectable_known {F = F} (known u s) c n)
+  collecting_known : (c : ClaimNumbers) (n : ℕ) → is_collected (step w s (Collect c n)).1 ≡ is_ok (collectable_known (known u s) c n)
   collecting_known c n =
-      let a : Option (Refusal F) = collect_checks n in
-      let b : Bool → Option (Refusal F) = λ i. refuse (not (eqb c.room s.number)) 42 (refuse i 41 None) in
+      let a : Option ℕ = collect_checks n in
+      let b : Bool → Option ℕ = λ i. refuse (not (eqb c.room s.number)) 42 (refuse i 41 None) in
       collects_by a (b (is_number c.auction s.current)) (numbered c.auction s.waiting) _ _ (collect_rows w s c n)
-      ∙ ap (λ o. is_ok (unless a (unless (b (is_number c.auction s.current)) (waiting_known {F = F} o)))) (sym (numbered_follows c.auction s.waiting))
-      ∙ ap (λ i. is_ok (unless a (unless (b i) (waiting_known {F = F} (numbered_known c.auction (numbers s.waiting)))))) (sym (is_number_follows u c.auction s.current))
+      ∙ ap (λ o. is_ok (unless a (unless (b (is_number c.auction s.current)) (waiting_known o)))) (sym (numbered_follows c.auction s.waiting))
+      ∙ ap (λ i. is_ok (unless a (unless (b i) (waiting_known (numbered_known c.auction (numbers s.waiting)))))) (sym (is_number_follows u c.auction s.current))
 
   -- Every call.
   pub claims_follow : (c : Call T) (purse : List ClaimNumbers) → purse_after c (step w s c).1 purse ≡ purse_known F (opens_here (moment w s c)) (known u s) (without_hidden u c) purse

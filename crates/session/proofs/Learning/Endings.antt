@@ -5,8 +5,6 @@ use Rattle.std.proofs.Common.{◌≡◌, ℕ, max, Bool, true, false, cond, not,
 use Rattle.std.proofs.lemmas.Bool.{eq-eqb}
 use Rattle.std.proofs.lemmas.List.{map-append}
 use Rattle.std.specs.Option.{option_map}
-use Rattle.allocation.specs.declared.cause.EndCause.{EndCause}
-use Rattle.allocation.specs.declared.cause.EndCause.TheVariants.{Deadline}
 use Rattle.allocation.specs.declared.response.Response.{Response}
 use Rattle.allocation.specs.Auction.{with_stood}
 use Rattle.room.specs.Clock.{due, clocked}
@@ -14,6 +12,7 @@ use Rattle.room.specs.State.{OpenAuction, EndedAuction, RoomState, is_number, cl
 use Rattle.session.specs.Learning.{ends_of, ends_here}
 use Rattle.session.specs.Runs.{Moment}
 use Rattle.session.proofs.Learning.Known.{Known, KnownAuction, known, known_auction, own_rows, own_count, numbers, closed_known, due_known, ended_known, settled, clocked_known, with_auction_known}
+use Rattle.std.specs.Str.{byte}
 
 -- The open auction is open no longer.
 abbrev pub ends_in : Option OpenAuction → Option OpenAuction → Bool
@@ -37,7 +36,7 @@ module _ {P T F Q : Type 0} where
   pub ends_here_is : (m : Moment P T F Q) → ends_here m ≡ ends_in m.before.current m.after.current
   ends_here_is m = ends_of_is m m.before.current refl
 
-pub closed_follows : (u : ℕ) (c : EndCause) (o : Option OpenAuction) (es : List EndedAuction) → numbers (closed c o es) ≡ closed_known (option_map (known_auction u) o) (numbers es)
+pub closed_follows : (u : ℕ) (c : ℕ) (o : Option OpenAuction) (es : List EndedAuction) → numbers (closed c o es) ≡ closed_known (option_map (known_auction u) o) (numbers es)
 closed_follows u c None es = refl
 closed_follows u c (Some a) es = map-append (λ (e : EndedAuction). e.number) es (record { number = a.number; values = a.values; cause = c } ∷ [])
 
@@ -75,7 +74,7 @@ auction_rows u a xs arrivals used ys n h k =
 
 module _ {P Q : Type 0} (u : ℕ) where
   -- An auction ends.
-  pub ended_follows : (c : EndCause) (s : RoomState P Q) → known u (ended c s) ≡ ended_known (known u s)
+  pub ended_follows : (c : ℕ) (s : RoomState P Q) → known u (ended c s) ≡ ended_known (known u s)
   ended_follows c s =
       ap (λ ns. record {
         number = s.number;
@@ -88,7 +87,7 @@ module _ {P Q : Type 0} (u : ℕ) where
         opened = s.opened;
       }) (closed_follows u c s.current s.waiting)
 
-  pub settled_follows : (c : EndCause) (b : Bool) (s : RoomState P Q) → known u (cond b (ended c s) s) ≡ settled b (known u s)
+  pub settled_follows : (c : ℕ) (b : Bool) (s : RoomState P Q) → known u (cond b (ended c s) s) ≡ settled b (known u s)
   settled_follows c true s = ended_follows c s
   settled_follows c false s = refl
 
@@ -96,7 +95,7 @@ module _ {P Q : Type 0} (u : ℕ) where
   pub clocked_follows : (s : RoomState P Q) (t : ℕ) → known u (clocked s t) ≡ clocked_known (known u s) t
   clocked_follows s t =
       let y = at_time (max s.time t) s in
-      settled_follows Deadline (due y.time y.current) y
+      settled_follows (byte "T") (due y.time y.current) y
       ∙ ap (λ b. settled b (known u y)) (sym (due_follows u y.time y.current))
 
   -- The open auction has become another of which the member knows the same.
@@ -107,11 +106,11 @@ module _ {P Q : Type 0} (u : ℕ) where
   -- Where the clock step has ended the auction, it does not matter what is said of a further end.
   module _ (goes : Bool → Known P Q → Known P Q) (over : (b : Bool) (k : Known P Q) → goes b (ended_known k) ≡ goes false (ended_known k)) where
     after_step : (b : Bool) (y z : RoomState P Q)
-        → known u z ≡ goes (ends_in (cond b (ended Deadline y) y).current z.current) (known u (cond b (ended Deadline y) y))
-        → known u z ≡ goes (ends_in y.current z.current) (known u (cond b (ended Deadline y) y))
+        → known u z ≡ goes (ends_in (cond b (ended (byte "T") y) y).current z.current) (known u (cond b (ended (byte "T") y) y))
+        → known u z ≡ goes (ends_in y.current z.current) (known u (cond b (ended (byte "T") y) y))
     after_step true y z h =
         let e = ends_in y.current z.current in
-        h ∙ ap (goes false) (ended_follows Deadline y) ∙ sym (over e (known u y)) ∙ sym (ap (goes e) (ended_follows Deadline y))
+        h ∙ ap (goes false) (ended_follows (byte "T") y) ∙ sym (over e (known u y)) ∙ sym (ap (goes e) (ended_follows (byte "T") y))
     after_step false y z h = h
 
     pub ends_after_clock : (s : RoomState P Q) (t : ℕ) (z : RoomState P Q)

@@ -7,7 +7,6 @@ use lib.Signed.{lt_z}
 use Rattle.std.specs.Int.{int_max}
 use Rattle.std.specs.Option.{option_map}
 use Rattle.market.specs.declared.quote.Quote.{Quote}
-use Rattle.market.specs.declared.refusal.RangeRefusal.{RangeRefusal}
 use Rattle.market.specs.declared.side.Side.{Side}
 use Rattle.market.specs.Range.{RangePrices, permitted, turned_quote}
 use Rattle.market.specs.Turned.{turned}
@@ -17,13 +16,12 @@ use Rattle.room.specs.declared.answers.AuctionView.{AuctionView}
 use Rattle.room.specs.declared.answers.ClaimNumbers.{ClaimNumbers}
 use Rattle.room.specs.declared.answers.StoredTerms.{StoredTerms}
 use Rattle.room.specs.declared.answers.View.{View}
-use Rattle.room.specs.declared.refusal.Refusal.{Refusal}
 use Rattle.room.specs.declared.requests.ChangeRequest.{ChangeRequest}
 use Rattle.room.specs.declared.requests.ResponseRequest.{ResponseRequest}
 use Rattle.room.specs.declared.requests.WithdrawRequest.{WithdrawRequest}
 use Rattle.room.specs.Checks.{open_checks, respond_checks, change_checks, withdraw_checks, time_checks, collect_checks}
 use Rattle.room.specs.Openings.{none_used}
-use Rattle.room.specs.Refusals.{refusal, refuse, unless, and_then, outcome}
+use Rattle.room.specs.Refusals.{RefusalTold, by_number, refuse, unless, and_then, outcome}
 use Rattle.allocation.specs.Table.{own_response, own_changed, without_own}
 use Rattle.room.specs.Responses.{same_side, is_plain, standing_now, plain_checked}
 use Rattle.room.specs.State.{OpenAuction, EndedAuction, RoomState}
@@ -205,45 +203,44 @@ with_change_known a x = counted_known a (own_changed x.member x.own (size_known 
 abbrev pub with_withdrawal_known : KnownAuction → WithdrawRequest → KnownAuction
 with_withdrawal_known a x = remaining_known a (without_own x.member x.own a.mine)
 
-module _ {F : Type 0} where
-  -- The refusals of a member's own calls, by what it knows.
-  abbrev pub open_now_known : Option KnownAuction → Result KnownAuction (Refusal F)
-  open_now_known None = Err (refusal 21)
-  open_now_known (Some a) = Ok a
+-- The refusals of a member's own calls, by what it knows.
+abbrev pub open_now_known : Option KnownAuction → Result KnownAuction ℕ
+open_now_known None = Err 21
+open_now_known (Some a) = Ok a
 
-  abbrev pub above_known : KnownAuction → ℤ → Option (Refusal F) → Option (Refusal F)
-  above_known a price = refuse (lt_z a.initiating (turned a.side price)) 23
+abbrev pub above_known : KnownAuction → ℤ → Option ℕ → Option ℕ
+above_known a price = refuse (lt_z a.initiating (turned a.side price)) 23
 
-  abbrev pub used_known : KnownAuction → Option (Refusal F) → Option (Refusal F)
-  used_known a = refuse (leb 10000 (counted a.count)) 27
+abbrev pub used_known : KnownAuction → Option ℕ → Option ℕ
+used_known a = refuse (leb 10000 (counted a.count)) 27
 
-  abbrev pub responding_to_known : Option KnownAuction → ResponseRequest → Result KnownAuction (Refusal F)
-  responding_to_known current x =
-      and_then (open_now_known current)
-      (λ a. unless (refuse (same_side x.side a.side) 22 (above_known a x.price (refuse (is_some (own_response x.member x.own a.mine)) 24 (used_known a None)))) (Ok a))
+abbrev pub responding_to_known : Option KnownAuction → ResponseRequest → Result KnownAuction ℕ
+responding_to_known current x =
+    and_then (open_now_known current)
+    (λ a. unless (refuse (same_side x.side a.side) 22 (above_known a x.price (refuse (is_some (own_response x.member x.own a.mine)) 24 (used_known a None)))) (Ok a))
 
-  abbrev pub changing_in_known : Option KnownAuction → ChangeRequest → Result KnownAuction (Refusal F)
-  changing_in_known current x =
-      and_then (open_now_known current)
-      (λ a. and_then (standing_now (own_response x.member x.own a.mine))
-      (λ y. unless (plain_checked y (above_known a x.price (used_known a None))) (Ok a)))
+abbrev pub changing_in_known : Option KnownAuction → ChangeRequest → Result KnownAuction ℕ
+changing_in_known current x =
+    and_then (open_now_known current)
+    (λ a. and_then (standing_now (own_response x.member x.own a.mine))
+    (λ y. unless (plain_checked y (above_known a x.price (used_known a None))) (Ok a)))
 
-  abbrev pub withdrawing_from_known : Option KnownAuction → WithdrawRequest → Result (KnownAuction × Response) (Refusal F)
-  withdrawing_from_known current x =
-      and_then (open_now_known current)
-      (λ a. and_then (standing_now (own_response x.member x.own a.mine))
-      (λ y. unless (plain_checked y None) (Ok (a, y))))
+abbrev pub withdrawing_from_known : Option KnownAuction → WithdrawRequest → Result (KnownAuction × Response) ℕ
+withdrawing_from_known current x =
+    and_then (open_now_known current)
+    (λ a. and_then (standing_now (own_response x.member x.own a.mine))
+    (λ y. unless (plain_checked y None) (Ok (a, y))))
 
-  -- The number of the auction that a claim collects.
-  abbrev pub waiting_known : Option ℕ → Result ℕ (Refusal F)
-  waiting_known None = Err (refusal 42)
-  waiting_known (Some n) = Ok n
+-- The number of the auction that a claim collects.
+abbrev pub waiting_known : Option ℕ → Result ℕ ℕ
+waiting_known None = Err 42
+waiting_known (Some n) = Ok n
 
-  abbrev pub collectable_known : {P Q : Type 0} → Known P Q → ClaimNumbers → ℕ → Result ℕ (Refusal F)
-  collectable_known k claim rows =
-      unless (collect_checks rows)
-      (unless (refuse (not (eqb claim.room k.number)) 42 (refuse (is_number_known claim.auction k.auction) 41 None))
-      (waiting_known (numbered_known claim.auction k.waiting)))
+abbrev pub collectable_known : {P Q : Type 0} → Known P Q → ClaimNumbers → ℕ → Result ℕ ℕ
+collectable_known k claim rows =
+    unless (collect_checks rows)
+    (unless (refuse (not (eqb claim.room k.number)) 42 (refuse (is_number_known claim.auction k.auction) 41 None))
+    (waiting_known (numbered_known claim.auction k.waiting)))
 
 abbrev pub view_known : KnownAuction → AuctionView
 view_known a = record { number = a.number; side = a.side; size = a.size; initiating = turned a.side a.initiating }
@@ -276,14 +273,14 @@ module _ {P Q : Type 0} where
   clocked_known k t = let j = at_time_known (max k.time t) k in settled (due_known j.time j.auction) j
 
   -- A timed call, as far as the room goes.
-  abbrev pub later_known : {R : Type 0} → Option R → Known P Q → ℕ → (Known P Q → Known P Q) → Known P Q
+  abbrev pub later_known : Option ℕ → Known P Q → ℕ → (Known P Q → Known P Q) → Known P Q
   later_known None k t business = business (clocked_known k t)
   later_known (Some e) k t business = k
 
   -- A timed call with its answer.
-  abbrev pub timed_known : {Y R : Type 0} → Option R → Known P Q → ℕ → (Known P Q → Known P Q × Result Y R) → Known P Q × Result Y R
+  abbrev pub timed_known : {Y F : Type 0} → Option ℕ → Known P Q → ℕ → (Known P Q → Known P Q × Result Y (RefusalTold F)) → Known P Q × Result Y (RefusalTold F)
   timed_known None k t business = business (clocked_known k t)
-  timed_known (Some e) k t business = (k, Err e)
+  timed_known (Some n) k t business = (k, Err (by_number n))
 
   abbrev pub responded_known : Known P Q → KnownAuction → ResponseRequest → Known P Q
   responded_known k a x = settled (plain_below_known a x) (with_auction_known (Some (with_response_known a x)) k)
@@ -291,32 +288,32 @@ module _ {P Q : Type 0} where
   abbrev pub look_known : Known P Q → View
   look_known k = record { time = k.time; halted = k.halted; waiting = length k.waiting; auction = option_map view_known k.auction }
 
+  -- A collecting that is accepted takes its auction away.
+  abbrev pub collected_by : Result ℕ ℕ → ℕ → Known P Q → Known P Q
+  collected_by (Ok _) n k = with_waiting_known (without_number_known n k.waiting) k
+  collected_by (Err e) n k = k
+
   module _ {F : Type 0} where
     -- A member's own response, change and withdrawal.
-    abbrev pub responding_known : Known P Q → ResponseRequest → Known P Q × Result StoredTerms (Refusal F)
+    abbrev pub responding_known : Known P Q → ResponseRequest → Known P Q × Result StoredTerms (RefusalTold F)
     responding_known k x =
         outcome (responding_to_known k.auction x) k (λ a. responded_known k a x) (λ a. terms_known a (price_known a x.price) (size_known a x.size))
 
-    abbrev pub changing_known : Known P Q → ChangeRequest → Known P Q × Result StoredTerms (Refusal F)
+    abbrev pub changing_known : Known P Q → ChangeRequest → Known P Q × Result StoredTerms (RefusalTold F)
     changing_known k x =
         outcome (changing_in_known k.auction x) k (λ a. with_auction_known (Some (with_change_known a x)) k) (λ a. terms_known a (price_known a x.price) (size_known a x.size))
 
-    abbrev pub withdrawing_known : Known P Q → WithdrawRequest → Known P Q × Result StoredTerms (Refusal F)
+    abbrev pub withdrawing_known : Known P Q → WithdrawRequest → Known P Q × Result StoredTerms (RefusalTold F)
     withdrawing_known k x =
         outcome (withdrawing_from_known k.auction x) k (λ f. with_auction_known (Some (with_withdrawal_known f.0 x)) k) (λ f. terms_known f.0 f.1.price f.1.size)
 
-    -- A collecting that is accepted takes its auction away.
-    abbrev pub collected_by : Result ℕ (Refusal F) → ℕ → Known P Q → Known P Q
-    collected_by (Ok _) n k = with_waiting_known (without_number_known n k.waiting) k
-    collected_by (Err e) n k = k
-
     -- All of an answer is shown.
-    abbrev pub shown_whole : Known P Q × Result StoredTerms (Refusal F) → Known P Q × Option (Answer F)
+    abbrev pub shown_whole : Known P Q × Result StoredTerms (RefusalTold F) → Known P Q × Option (Answer F)
     shown_whole y = (y.0, Some (answered Stored y.1))
 
 module _ {P T F Q : Type 0} (w : World P T F Q) (u : ℕ) where
   -- An opening that was accepted. (One that has no range was not.)
-  abbrev pub opened_known : Result RangePrices RangeRefusal → Known P Q → PairedOrder → Known P Q
+  abbrev pub opened_known : Result RangePrices ℕ → Known P Q → PairedOrder → Known P Q
   opened_known (Ok r) k o = record {
     number = k.number;
     time = k.time;
@@ -345,22 +342,22 @@ module _ {P T F Q : Type 0} (w : World P T F Q) (u : ℕ) where
 
   -- What the member knows after a call, and what it is shown of the answer.
   abbrev pub known_step : Bool → Bool → Known P Q → Call T → Known P Q × Option (Answer F)
-  known_step opens ends k (Open x) = (later_known (open_checks {F = F} x) k x.time (λ j. opening_known opens j x.order), None)
+  known_step opens ends k (Open x) = (later_known (open_checks x) k x.time (λ j. opening_known opens j x.order), None)
   known_step opens ends k (Respond x) =
       cond (eqb x.member u)
       (shown_whole (timed_known (respond_checks x) k x.time (λ j. responding_known j x)))
-      (later_known (respond_checks {F = F} x) k x.time (settled ends), None)
+      (later_known (respond_checks x) k x.time (settled ends), None)
   known_step opens ends k (Change x) =
       cond (eqb x.member u)
       (shown_whole (timed_known (change_checks x) k x.time (λ j. changing_known j x)))
-      (later_known (change_checks {F = F} x) k x.time (λ j. j), None)
+      (later_known (change_checks x) k x.time (λ j. j), None)
   known_step opens ends k (Withdraw x) =
       cond (eqb x.member u)
       (shown_whole (timed_known (withdraw_checks x) k x.time (λ j. withdrawing_known j x)))
-      (later_known (withdraw_checks {F = F} x) k x.time (λ j. j), None)
-  known_step opens ends k (Tick t x) = (later_known (time_checks {F = F} t) k t (λ j. ticking_known ends j x), None)
-  known_step opens ends k (Halt t) = (later_known (time_checks {F = F} t) k t (λ j. with_halted_known true (ended_known j)), None)
-  known_step opens ends k (Resume t) = (later_known (time_checks {F = F} t) k t (λ j. with_halted_known false j), None)
-  known_step opens ends k (Clock t) = (later_known (time_checks {F = F} t) k t (λ j. j), None)
+      (later_known (withdraw_checks x) k x.time (λ j. j), None)
+  known_step opens ends k (Tick t x) = (later_known (time_checks t) k t (λ j. ticking_known ends j x), None)
+  known_step opens ends k (Halt t) = (later_known (time_checks t) k t (λ j. with_halted_known true (ended_known j)), None)
+  known_step opens ends k (Resume t) = (later_known (time_checks t) k t (λ j. with_halted_known false j), None)
+  known_step opens ends k (Clock t) = (later_known (time_checks t) k t (λ j. j), None)
   known_step opens ends k Look = (k, Some (Looked (look_known k)))
-  known_step opens ends k (Collect c n) = (collected_by (collectable_known {F = F} k c n) c.auction k, None)
+  known_step opens ends k (Collect c n) = (collected_by (collectable_known k c n) c.auction k, None)

@@ -4,9 +4,7 @@ use Rattle.std.proofs.Common.{◌≡◌, ℕ, ◌≤◌, Bool, true, false, cond
 use Rattle.std.proofs.lemmas.Bool.{cond-true, cond-false, eqb-true}
 use Rattle.std.proofs.lemmas.List.{length-map}
 use Rattle.std.specs.Option.{option_map}
-use Rattle.allocation.specs.declared.cause.EndCause.TheVariants.{Halt as Halted}
 use Rattle.room.specs.declared.answers.StoredTerms.{StoredTerms}
-use Rattle.room.specs.declared.refusal.Refusal.{Refusal}
 use Rattle.room.specs.declared.requests.ChangeRequest.{ChangeRequest}
 use Rattle.room.specs.declared.requests.OpeningRequest.{OpeningRequest}
 use Rattle.room.specs.declared.requests.ResponseRequest.{ResponseRequest}
@@ -29,6 +27,8 @@ use Rattle.session.proofs.Learning.Endings.{ends_in, ends_here_is, ended_follows
 use Rattle.session.proofs.Learning.OthersCalls.{opens_in, others_responding, others_changing, others_withdrawing, ticking_follows, ticking_over, opening_follows, collecting_follows}
 use Rattle.session.proofs.Learning.InputChecks.{responding_member, changing_member, open_checks_same, respond_checks_same, change_checks_same}
 use Rattle.session.proofs.Learning.OwnCalls.{with_answer, own_responds, own_changes, own_withdraws}
+use Rattle.std.specs.Str.{byte}
+use Rattle.room.specs.Refusals.{RefusalTold}
 
 -- After an end there is nothing left to end.
 settled_over : {P Q : Type 0} (b : Bool) (k : Known P Q) → settled b (ended_known k) ≡ settled false (ended_known k)
@@ -41,14 +41,14 @@ view_follows u (Some a) = refl
 
 module _ {P T F Q : Type 0} (w : World P T F Q) (u : ℕ) (s : RoomState P Q) where
   -- A timed call whose business is known.
-  later_follows : {Y R : Type 0} (r : Option R) (t : ℕ) (business : RoomState P Q → RoomState P Q × Result Y R) (goes : Known P Q → Known P Q)
+  later_follows : {Y F : Type 0} (r : Option ℕ) (t : ℕ) (business : RoomState P Q → RoomState P Q × Result Y (RefusalTold F)) (goes : Known P Q → Known P Q)
       → (r ≡ None → (z : RoomState P Q) → known u (business z).0 ≡ goes (known u z))
       → known u (timed r s t business).0 ≡ later_known r (known u s) t goes
   later_follows None t business goes h = h refl (clocked s t) ∙ ap goes (clocked_follows u s t)
   later_follows (Some e) t business goes h = refl
 
   -- The member's own call: all of the answer is shown.
-  own_shown : (member : ℕ) (r : Option (Refusal F)) (t : ℕ) (y : RoomState P Q × Result StoredTerms (Refusal F)) (goes : Known P Q → Known P Q × Result StoredTerms (Refusal F)) (others : Known P Q × Option (Answer F))
+  own_shown : (member : ℕ) (r : Option ℕ) (t : ℕ) (y : RoomState P Q × Result StoredTerms (RefusalTold F)) (goes : Known P Q → Known P Q × Result StoredTerms (RefusalTold F)) (others : Known P Q × Option (Answer F))
       → eqb member u ≡ true → with_answer member y ≡ timed_known r (known member s) t goes
       → (known u y.0, Some (answered Stored y.1)) ≡ cond (eqb member u) (shown_whole (timed_known r (known u s) t goes)) others
   own_shown member r t y goes others h own =
@@ -60,7 +60,7 @@ module _ {P T F Q : Type 0} (w : World P T F Q) (u : ℕ) (s : RoomState P Q) wh
   others_shown member z k own h e = ap (λ j. (j, None)) e ∙ sym (cond-false (eqb member u) own (k, None) h)
 
   -- An opening.
-  opens_later : (r : Option (Refusal F)) (x : OpeningRequest)
+  opens_later : (r : Option ℕ) (x : OpeningRequest)
       → let y = timed r s x.time (λ z. opening w z x.order) in
       known u y.0 ≡ later_known r (known u s) x.time (λ j. opening_known w u (opens_in y.1) j (opening_without x).order)
   opens_later None x =
@@ -71,14 +71,14 @@ module _ {P T F Q : Type 0} (w : World P T F Q) (u : ℕ) (s : RoomState P Q) wh
 
   open_follows : (x : OpeningRequest)
       → let y = open_call w s x in
-      known u y.0 ≡ later_known (open_checks {F = F} (opening_without x)) (known u s) x.time (λ j. opening_known w u (opens_in y.1) j (opening_without x).order)
+      known u y.0 ≡ later_known (open_checks (opening_without x)) (known u s) x.time (λ j. opening_known w u (opens_in y.1) j (opening_without x).order)
   open_follows x =
       let opens = opens_in (open_call w s x).1 in
       opens_later (open_checks x) x
       ∙ ap (λ r. later_known r (known u s) x.time (λ j. opening_known w u opens j (opening_without x).order)) (open_checks_same F x)
 
   -- A response: the member's own, or another's.
-  responds_later : (r : Option (Refusal F)) (x : ResponseRequest) → (r ≡ None → 1 ≤ x.member) → eqb x.member u ≡ false
+  responds_later : (r : Option ℕ) (x : ResponseRequest) → (r ≡ None → 1 ≤ x.member) → eqb x.member u ≡ false
       → let z = (timed r s x.time (λ v. responding {F = F} v x)).0 in
       known u z ≡ later_known r (known u s) x.time (settled (ends_in s.current z.current))
   responds_later None x g h =
@@ -95,7 +95,7 @@ module _ {P T F Q : Type 0} (w : World P T F Q) (u : ℕ) (s : RoomState P Q) wh
   respond_by true x h = own_shown x.member (respond_checks x) x.time (respond_call s x) (λ k. responding_known k x) _ h (own_responds F s x)
   respond_by false x h =
       let goes = settled (ends_in s.current (respond_call {F = F} s x).0.current) in
-      others_shown x.member _ _ _ h (responds_later (respond_checks x) x (responding_member F x) h ∙ ap (λ r. later_known r (known u s) x.time goes) (respond_checks_same F x))
+      others_shown x.member _ _ _ h (responds_later (respond_checks x) x (responding_member x) h ∙ ap (λ r. later_known r (known u s) x.time goes) (respond_checks_same F x))
 
   -- A change.
   change_by : (b : Bool) (x : ChangeRequest) → eqb x.member u ≡ b
@@ -104,7 +104,7 @@ module _ {P T F Q : Type 0} (w : World P T F Q) (u : ℕ) (s : RoomState P Q) wh
   change_by true x h = own_shown x.member (change_checks x) x.time (change_call s x) (λ k. changing_known k x) _ h (own_changes F s x)
   change_by false x h =
       others_shown x.member _ _ _ h
-      (later_follows (change_checks x) x.time (λ v. changing v x) (λ k. k) (λ e v. others_changing F u v x (changing_member F x e) h)
+      (later_follows (change_checks x) x.time (λ v. changing v x) (λ k. k) (λ e v. others_changing F u v x (changing_member x e) h)
       ∙ ap (λ r. later_known r (known u s) x.time (λ k. k)) (change_checks_same F x))
 
   -- A withdrawal.
@@ -116,7 +116,7 @@ module _ {P T F Q : Type 0} (w : World P T F Q) (u : ℕ) (s : RoomState P Q) wh
       others_shown x.member _ _ _ h (later_follows (withdraw_checks x) x.time (λ v. withdrawing v x) (λ k. k) (λ e v. others_withdrawing F u v x h))
 
   -- A tick.
-  ticks_later : (r : Option (Refusal F)) (t : ℕ) (x : T)
+  ticks_later : (r : Option ℕ) (t : ℕ) (x : T)
       → let z = (timed r s t (λ v. ticking w v x)).0 in
       known u z ≡ later_known r (known u s) t (λ j. ticking_known w u (ends_in s.current z.current) j x)
   ticks_later None t x =
@@ -141,9 +141,9 @@ module _ {P T F Q : Type 0} (w : World P T F Q) (u : ℕ) (s : RoomState P Q) wh
   call_follows (Withdraw x) = withdraw_by (eqb x.member u) x refl
   call_follows (Tick t x) = ap (λ k. (k, None)) (ticks_later (time_checks t) t x)
   call_follows (Halt t) =
-      ap (λ k. (k, None)) (later_follows {R = Refusal F} (time_checks t) t _ (λ j. with_halted_known true (ended_known j)) (λ e z. ap (with_halted_known true) (ended_follows u Halted z)))
-  call_follows (Resume t) = ap (λ k. (k, None)) (later_follows {R = Refusal F} (time_checks t) t _ (with_halted_known false) (λ e z. refl))
-  call_follows (Clock t) = ap (λ k. (k, None)) (later_follows {R = Refusal F} (time_checks t) t _ (λ j. j) (λ e z. refl))
+      ap (λ k. (k, None)) (later_follows {F = F} (time_checks t) t _ (λ j. with_halted_known true (ended_known j)) (λ e z. ap (with_halted_known true) (ended_follows u (byte "H") z)))
+  call_follows (Resume t) = ap (λ k. (k, None)) (later_follows {F = F} (time_checks t) t _ (with_halted_known false) (λ e z. refl))
+  call_follows (Clock t) = ap (λ k. (k, None)) (later_follows {F = F} (time_checks t) t _ (λ j. j) (λ e z. refl))
   call_follows Look = ap (λ v. (known u s, Some (Looked v))) look_follows
   call_follows (Collect c n) = ap (λ k. (k, None)) (collecting_follows w u s c n)
 

@@ -23,7 +23,7 @@ impl<M: Market, R: Ranking, S: IntervalSource> Desk<M, R, S> {
     where
         M::Tick: Drop,
         ensures state { OnOk result (state_of M.Market.position S.IntervalSource.position self.new.session.room ≡ desk_after (world_of M.Market.meaning S.IntervalSource.meaning (R.Ranking.ahead self.old.session.room.ranking)) (state_of M.Market.position S.IntervalSource.position self.old.session.room) call) }
-        ensures answer { IfOk result (λ a. told a ≡ desk_answer (world_of M.Market.meaning S.IntervalSource.meaning (R.Ranking.ahead self.old.session.room.ranking)) (state_of M.Market.position S.IntervalSource.position self.old.session.room) call) }
+        ensures answer { IfOk result (λ a. told M.Market.told a ≡ desk_answer (world_of M.Market.meaning S.IntervalSource.meaning (R.Ranking.ahead self.old.session.room.ranking)) (state_of M.Market.position S.IntervalSource.position self.old.session.room) call) }
         ensures unmade { OnErr result (self.new.session.room ≡ self.old.session.room) }
         ensures ranking { self.new.session.room.ranking ≡ self.old.session.room.ranking }
     {

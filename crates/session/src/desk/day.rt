@@ -38,7 +38,7 @@ pub fn run_day<M: Market, R: Ranking, S: IntervalSource>(
 ) -> Result<DayDone<M, R, S, M::Fault>, Day<M, R, S, M::Tick>>
 where
     M::Tick: Drop,
-    ensures { MatchResult result (λ done. DayAsModelled (world_of M.Market.meaning S.IntervalSource.meaning (R.Ranking.ahead day.ranking)) M.Market.position S.IntervalSource.position day done) (λ back. back ≡ day) }
+    ensures { MatchResult result (λ done. DayAsModelled M.Market.told (world_of M.Market.meaning S.IntervalSource.meaning (R.Ranking.ahead day.ranking)) M.Market.position S.IntervalSource.position day done) (λ back. back ≡ day) }
 {
     let Day {
         number,

@@ -14,7 +14,7 @@ use Rattle.session.proofs.run.run.Goals as goal
 
 pub returns : goal.returns
 returns g c =
-    let at : g.row.R.Denot → World g.M.Market.Position g.row.M-Tick.Denot g.row.M-Fault.Denot g.S.IntervalSource.Position = λ r. world_of g.M.Market.meaning g.S.IntervalSource.meaning (g.R.Ranking.ahead r) in
+    let at : g.row.R.Denot → World g.M.Market.Position g.row.M-Tick.Denot g.M.Market.Told g.S.IntervalSource.Position = λ r. world_of g.M.Market.meaning g.S.IntervalSource.meaning (g.R.Ranking.ahead r) in
     let h = c.args.handed in
     let w = at h.ranking in
     let calls = vec_items h.calls in
@@ -35,7 +35,7 @@ returns g c =
           (record {
             answers =
                 c.play.ensures.answers
-                ∙ ap (λ (l : List (Option (Answer g.row.M-Fault.Denot))). l ++ session_answers (at c.new-room.result.ranking) made calls) (ap (map told) c.in-Ok.ensures.answers.0)
+                ∙ ap (λ (l : List (Option (Answer g.M.Market.Told))). l ++ session_answers (at c.new-room.result.ranking) made calls) (ap (map (told g.M.Market.told)) c.in-Ok.ensures.answers.0)
                 ∙ ap (λ r. session_answers (at r) made calls) c.new-room.ensures.ranking
                 ∙ ap (λ s. session_answers w s calls) starts;
             room = ap (λ (s : Session g.M.Market.Position g.S.IntervalSource.Position). s.room) ended;

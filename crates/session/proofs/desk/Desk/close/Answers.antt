@@ -19,7 +19,7 @@ destroy_empty-requires g c =
 
 pub returns-clause-told : goal.returns-clause-told
 returns-clause-told g c =
-    let at : g.row.R.Denot → World g.M.Market.Position g.row.M-Tick.Denot g.row.M-Fault.Denot g.S.IntervalSource.Position = λ r. world_of g.M.Market.meaning g.S.IntervalSource.meaning (g.R.Ranking.ahead r) in
+    let at : g.row.R.Denot → World g.M.Market.Position g.row.M-Tick.Denot g.M.Market.Told g.S.IntervalSource.Position = λ r. world_of g.M.Market.meaning g.S.IntervalSource.meaning (g.R.Ranking.ahead r) in
     let w = at c.args.self.session.room.ranking in
     let room = c.halt.new.self in
     let halted = state_of g.M.Market.position g.S.IntervalSource.position room in

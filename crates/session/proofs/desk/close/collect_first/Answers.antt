@@ -3,7 +3,7 @@ use Rattle.std.proofs.Common.{map, IsOk, sym, refl, ap, ◌∙◌, subst, vec_it
 use Rattle.std.specs.List.{remove}
 use Rattle.room.specs.Rooms.{claim_numbers, collected_answer, state_of, world_of}
 use Rattle.session.specs.Claims.{claims_to}
-use Rattle.session.proofs.Closing.{first_taken, first_collected, some_there}
+use Rattle.session.proofs.Closing.{ok_as_told, first_taken, first_collected, some_there}
 use Rattle.session.proofs.desk.close.collect_first.Goals as goal
 
 pub unwrap-collection-requires : goal.unwrap-collection-requires
@@ -14,7 +14,7 @@ unwrap-collection-requires g c =
     let all = vec_items c.args.claims.now in
     let first = first_taken claim_numbers all claim (some_there c.args.claims.now _ c.is_empty.ensures c.if-is_empty.false) c.remove-claim.ensures.value in
     let did = first_collected w s (claim_numbers claim) (map claim_numbers (remove all 0)) s.waiting c.requires.none_open refl (first ∙ c.requires.all_held) in
-    subst (λ r. IsOk r) (sym (c.collect.ensures.answer ∙ ap (collected_answer claim) did.answer_is)) refl
+    ok_as_told _ _ c.collect.result (subst (λ r. IsOk r) (sym (c.collect.ensures.answer ∙ ap (collected_answer claim) did.answer_is)) refl)
 
 pub returns-clause-all_held : goal.returns-clause-all_held
 returns-clause-all_held g c =

@@ -14,10 +14,10 @@ returns-in-Ok g c =
     let w = world_of g.M.Market.meaning g.S.IntervalSource.meaning (g.R.Ranking.ahead day.ranking) in
     let finished = c.in-Ok.finished in
     let did = c.in-Ok.ensures in
-    let at : List ClaimNumbers → List ClaimNumbers → Carried g.M.Market.Position g.row.M-Tick.Denot g.row.M-Fault.Denot g.S.IntervalSource.Position = λ purse claims. record {
+    let at : List ClaimNumbers → List ClaimNumbers → Carried g.M.Market.Position g.row.M-Tick.Denot g.M.Market.Told g.S.IntervalSource.Position = λ purse claims. record {
       start = record { number = day.number; market = g.M.Market.position day.market; source = g.S.IntervalSource.position day.source; purse = purse };
       calls = vec_items day.calls;
-      answers = map told (vec_items finished.answers);
+      answers = map (told g.M.Market.told) (vec_items finished.answers);
       room = state_of g.M.Market.position g.S.IntervalSource.position finished.room;
       claims = claims;
     } in

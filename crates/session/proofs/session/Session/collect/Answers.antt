@@ -5,7 +5,8 @@ use Rattle.std.specs.List.{insert}
 use Rattle.std.proofs.lemmas.Option.{cond_some}
 use Rattle.allocation.specs.declared.fill.FillRow.{FillRow}
 use Rattle.room.specs.declared.claim.Claim.{Claim}
-use Rattle.room.specs.Rooms.{claim_numbers}
+use Rattle.room.specs.Refusals.{refusal_told}
+use Rattle.room.specs.Rooms.{claim_numbers, collection_answer, collection_told}
 use Rattle.session.specs.Made.{session_now, session_world}
 use Rattle.session.specs.Runs.{Collected}
 use Rattle.session.specs.Sessions.{holds, without_claim}
@@ -34,7 +35,7 @@ slice_bounds-take-end g c =
     let first = session_now g.M.Market.position g.S.IntervalSource.position self in
     let claim = c.in-Some.taken.claim in
     let new : List FillRow = c.collect.new.rows in
-    let told = gathered w first.room (claim_numbers claim) _ claim c.in-Ok.collection _ new (sym c.in-Ok.is ∙ c.collect.ensures.answer) c.collect.ensures.rows c.collect.auto.rows in
+    let told = gathered w first.room (claim_numbers claim) _ claim (collection_told c.in-Ok.collection) _ new (ap (collection_answer g.M.Market.told) (sym c.in-Ok.is) ∙ c.collect.ensures.answer) c.collect.ensures.rows c.collect.auto.rows in
     let within = told.0 in
     omega (arith, length-take c.in-Ok.collection.count new)
 
@@ -48,9 +49,9 @@ returns-in-Ok g c =
     let first = session_now g.M.Market.position g.S.IntervalSource.position self in
     let numbers = c.args.numbers in
     let claim = c.in-Some.taken.claim in
-    let k = c.in-Ok.collection in
+    let k = collection_told c.in-Ok.collection in
     let new : List FillRow = c.collect.new.rows in
-    let told = gathered w first.room (claim_numbers claim) _ claim k _ new (sym c.in-Ok.is ∙ c.collect.ensures.answer) c.collect.ensures.rows c.collect.auto.rows in
+    let told = gathered w first.room (claim_numbers claim) _ claim k _ new (ap (collection_answer g.M.Market.told) (sym c.in-Ok.is) ∙ c.collect.ensures.answer) c.collect.ensures.rows c.collect.auto.rows in
     let held = cond_some (holds numbers first.purse) numbers (claim_numbers claim) (sym c.in-Some.ensures.claim) in
     let others = c.take.ensures.others ∙ ap (λ x. without_claim x first.purse) held.1 in
     let is =
@@ -70,7 +71,7 @@ returns-in-Err g c =
     let first = session_now g.M.Market.position g.S.IntervalSource.position self in
     let numbers = c.args.numbers in
     let claim = c.in-Some.taken.claim in
-    let told = refused w first.room (claim_numbers claim) _ claim c.in-Err.claim c.in-Err.refusal (sym c.in-Err.is ∙ c.collect.ensures.answer) in
+    let told = refused w first.room (claim_numbers claim) _ claim c.in-Err.claim (refusal_told g.M.Market.told c.in-Err.refusal) (ap (collection_answer g.M.Market.told) (sym c.in-Err.is) ∙ c.collect.ensures.answer) in
     let held = cond_some (holds numbers first.purse) numbers (claim_numbers claim) (sym c.in-Some.ensures.claim) in
     let back = c.put_at.ensures.numbers ∙ ap (λ (x : Claim). insert c.take.new.self.numbers c.in-Some.taken.place (claim_numbers x)) told.1 ∙ c.in-Some.ensures.place.1 in
     let is =

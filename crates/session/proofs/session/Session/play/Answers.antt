@@ -10,7 +10,7 @@ use Rattle.session.proofs.session.Session.play.Goals as goal
 
 pub loop-call-preserved : goal.loop-call-preserved
 loop-call-preserved g c =
-    let at : g.row.R.Denot → World g.M.Market.Position g.row.M-Tick.Denot g.row.M-Fault.Denot g.S.IntervalSource.Position = λ r. world_of g.M.Market.meaning g.S.IntervalSource.meaning (g.R.Ranking.ahead r) in
+    let at : g.row.R.Denot → World g.M.Market.Position g.row.M-Tick.Denot g.M.Market.Told g.S.IntervalSource.Position = λ r. world_of g.M.Market.meaning g.S.IntervalSource.meaning (g.R.Ranking.ahead r) in
     let w = at c.args.self.now.room.ranking in
     let before = session_now g.M.Market.position g.S.IntervalSource.position c.loop-call.self in
     let call = c.in-Some.call in
@@ -20,7 +20,7 @@ loop-call-preserved g c =
     let answer = did.answer ∙ ap (λ r. session_answer (at r) before call) so_far.ranking in
     let took = c.in-Some.ensures.steps.0 in
     record {
-      answers = one_answered w _ _ before _ _ call _ _ (one_told told _ _ _ c.push_reserved.ensures.items) after answer took ∙ so_far.answers;
+      answers = one_answered w _ _ before _ _ call _ _ (one_told (told g.M.Market.told) _ _ _ c.push_reserved.ensures.items) after answer took ∙ so_far.answers;
       session = one_ended w before _ call _ _ after took ∙ so_far.session;
       ranking = did.ranking ∙ so_far.ranking;
       memory = did.memory _ (subst (λ cs. HasMemoryFor c.loop-call.self cs) took so_far.memory);

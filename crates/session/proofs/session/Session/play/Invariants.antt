@@ -15,7 +15,7 @@ invariant-loop-call g l =
     let rest = into_iter_items l.call-iterator in
     let all = into_iter_items l.initial.call-iterator in
     record {
-      answers : map told (vec_items l.answers) ++ session_answers w now_at rest ≡ map told (vec_items l.initial.answers) ++ session_answers w first all;
+      answers : map (told g.M.Market.told) (vec_items l.answers) ++ session_answers w now_at rest ≡ map (told g.M.Market.told) (vec_items l.initial.answers) ++ session_answers w first all;
       session : session_end w now_at rest ≡ session_end w first all;
       ranking : l.self.room.ranking ≡ l.initial.self.room.ranking;
       memory : HasMemoryFor l.self rest;
