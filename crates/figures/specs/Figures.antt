@@ -1,6 +1,7 @@
 -- Worked figures: from quotes to what is shown, from there to a range, and, through a room from the first tick to the fill list,
 -- how an order is shared out among its responses and the contra.
 use Rattle.std.specs.Prelude.{◌≡◌, ℕ, List, [], ◌∷◌, ◌++◌, length, pos, Some, None, Ok}
+use Rattle.std.specs.Str.{byte}
 use Rattle.market.specs.declared.better_of.Half.TheVariants.{Left, Right}
 use Rattle.market.specs.declared.legs.leg.LegTick.{LegTick}
 use Rattle.market.specs.declared.quote.Quote.{Quote}
@@ -10,7 +11,6 @@ use Rattle.market.specs.History.{after}
 use Rattle.market.specs.Improve.{improved_quote}
 use Rattle.market.specs.Legs.{legs_meaning, smallest_ratio}
 use Rattle.market.specs.Range.{permitted}
-use Rattle.allocation.specs.declared.cause.EndCause.TheVariants.{Deadline}
 use Rattle.allocation.specs.declared.fill.FillRow.{FillRow}
 use Rattle.allocation.specs.declared.order.Guarantee.{Guarantee}
 use Rattle.allocation.specs.declared.response.Class.{Class}
@@ -70,7 +70,7 @@ AutoMatchFrom402Through404 =
     ∷ looks ⇒ one_open 10000 0 (viewed 1 Buy 100 404)
     ∷ offers Sealed Other 10010 2 1 10 401 ⇒ stored 10 402
     ∷ clock 10100 ⇒ accepted
-    ∷ collects 1 ⇒ collected 3 Deadline (contra_row 402 10 ∷ row Sealed Other 2 1 402 10 0 ∷ contra_row 404 80 ∷ [])
+    ∷ collects 1 ⇒ collected 3 (byte "T") (contra_row 402 10 ∷ row Sealed Other 2 1 402 10 0 ∷ contra_row 404 80 ∷ [])
     ∷ [])
 
 -- The order of the figures on sharing: it buys, with a limit of 310, on the market of the first figure, so that its range
@@ -88,7 +88,7 @@ offered member class size price = offers Sealed class 10010 member 1 size price 
 -- order; at its deadline the auction ends, and these rows are collected.
 abbrev pub SharesOut : ℕ → Guarantee → List Line → List FillRow → Type 0
 SharesOut size g responses rows =
-    Day (buys 10000 size 310 g ⇒ claim 1 ∷ responses ++ (clock 10100 ⇒ accepted ∷ collects 1 ⇒ collected (length rows) Deadline rows ∷ []))
+    Day (buys 10000 size 310 g ⇒ claim 1 ∷ responses ++ (clock 10100 ⇒ accepted ∷ collects 1 ⇒ collected (length rows) (byte "T") rows ∷ []))
 
 -- Stop 300, another's 60 at 298: 60, and the contra 40.
 abbrev pub BetterPriceFirstContraTheRest : Type 0

@@ -2,8 +2,8 @@
 -- withdrawal, ends, and is collected. The market shows 294 and 304, so that an order to buy with a limit of 310 has the
 -- range 294 to 304, and an order to sell with a limit of 290 the range from 304 down to 294.
 use Rattle.std.specs.Prelude.{List, [], ◌∷◌}
+use Rattle.std.specs.Str.{byte}
 use Rattle.market.specs.declared.side.Side.TheVariants.{Buy}
-use Rattle.allocation.specs.declared.cause.EndCause.TheVariants.{NextAuction, FloorAboveInitiating, FloorAboveResponse, FloorAboveStop, PlainBelowFloor, ContraBelowGuarantee, Halt, Deadline}
 use Rattle.allocation.specs.declared.fill.FillRow.{FillRow}
 use Rattle.allocation.specs.declared.response.Class.TheVariants.{Customer, Other}
 use Rattle.allocation.specs.declared.response.Kind.TheVariants.{Sealed, Plain}
@@ -36,7 +36,7 @@ next_auction_run =
     ∷ withdraws 20055 5 1 ⇒ stored 9 303
     ∷ buys 20060 10 310 (stop 300) ⇒ claim 2
     ∷ looks ⇒ one_open 20060 1 (viewed 2 Buy 10 304)
-    ∷ collects 1 ⇒ collected 6 NextAuction next_auction_rows
+    ∷ collects 1 ⇒ collected 6 (byte "A") next_auction_rows
     ∷ []
 
 -- A: the auction ends as another opening is accepted, and the other is then open.
@@ -68,7 +68,7 @@ floor_above_initiating_run =
     ∷ withdraws 30055 5 1 ⇒ stored 1 295
     ∷ book_bids 30060 299 ⇒ accepted
     ∷ looks ⇒ none_open 30060 1
-    ∷ collects 1 ⇒ collected 5 FloorAboveInitiating floor_above_initiating_rows
+    ∷ collects 1 ⇒ collected 5 (byte "B") floor_above_initiating_rows
     ∷ []
 
 -- B: the auction ends as the floor is above its initiating price.
@@ -98,7 +98,7 @@ floor_above_response_run =
     ∷ withdraws 40055 5 1 ⇒ stored 3 300
     ∷ book_tick 40060 293 301 ⇒ accepted
     ∷ looks ⇒ none_open 40060 1
-    ∷ collects 1 ⇒ collected 4 FloorAboveResponse floor_above_response_rows
+    ∷ collects 1 ⇒ collected 4 (byte "C") floor_above_response_rows
     ∷ []
 
 -- C: the auction ends as the floor is above a response that stands.
@@ -125,7 +125,7 @@ floor_above_stop_run =
     ∷ withdraws 50050 4 1 ⇒ stored 2 296
     ∷ book_bids 50060 296 ⇒ accepted
     ∷ looks ⇒ none_open 50060 1
-    ∷ collects 1 ⇒ collected 3 FloorAboveStop floor_above_stop_rows
+    ∷ collects 1 ⇒ collected 3 (byte "D") floor_above_stop_rows
     ∷ []
 
 -- D: the auction ends as the floor is above its single stop.
@@ -153,7 +153,7 @@ plain_below_floor_run =
     ∷ withdraws 60050 4 1 ⇒ stored 6 300
     ∷ bids Plain Other 60060 5 1 20 310 ⇒ stored 20 304
     ∷ looks ⇒ none_open 60060 1
-    ∷ collects 1 ⇒ collected 3 PlainBelowFloor plain_below_floor_rows
+    ∷ collects 1 ⇒ collected 3 (byte "E") plain_below_floor_rows
     ∷ []
 
 -- E: the auction ends by a plain response priced below the floor, which shares in it.
@@ -180,7 +180,7 @@ contra_below_guarantee_run =
     ∷ withdraws 70050 4 1 ⇒ stored 99 294
     ∷ book_tick 70060 293 302 ⇒ accepted
     ∷ looks ⇒ none_open 70060 1
-    ∷ collects 1 ⇒ collected 3 ContraBelowGuarantee contra_below_guarantee_rows
+    ∷ collects 1 ⇒ collected 3 (byte "F") contra_below_guarantee_rows
     ∷ []
 
 -- F: the auction ends as the contra price is below its guarantee.
@@ -208,7 +208,7 @@ halt_run =
     ∷ withdraws 80050 4 1 ⇒ stored 2 304
     ∷ halts 80060 ⇒ accepted
     ∷ looks ⇒ none_open_halted 80060 1
-    ∷ collects 1 ⇒ collected 3 Halt halt_rows
+    ∷ collects 1 ⇒ collected 3 (byte "H") halt_rows
     ∷ []
 
 -- H: the auction ends by a halt, and the room is halted.
@@ -227,7 +227,7 @@ deadline_run rows =
     ∷ withdraws 10060 5 1 ⇒ stored 10 297
     ∷ clock 10100 ⇒ accepted
     ∷ looks ⇒ none_open 10100 1
-    ∷ collects 1 ⇒ collected 4 Deadline rows
+    ∷ collects 1 ⇒ collected 4 (byte "T") rows
     ∷ []
 
 -- The rows for T. The customer gets 30 and the contra 40% of 100. The others share the 30 left by their 20 and 50: 8 and 21, rounded down,

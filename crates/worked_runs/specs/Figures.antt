@@ -1,10 +1,10 @@
 -- Worked figures that concern a room.
 use Rattle.std.specs.Prelude.{◌≡◌, List, [], ◌∷◌, ℤ, pos, neg_ℤ, Some, Option}
+use Rattle.std.specs.Str.{byte}
 use Rattle.std.specs.Option.{option_map}
 use Rattle.market.specs.declared.side.Side.TheVariants.{Buy, Sell}
 use Rattle.market.specs.Cube.{CubePosition, cube_start}
 use Rattle.interval.specs.declared.fixed.FixedInterval.{FixedInterval}
-use Rattle.allocation.specs.declared.cause.EndCause.TheVariants.{FloorAboveResponse, ContraBelowGuarantee, Deadline}
 use Rattle.allocation.specs.declared.response.Class.TheVariants.{Other}
 use Rattle.allocation.specs.declared.response.Kind.TheVariants.{Sealed}
 use Rattle.room.specs.State.{OpenAuction}
@@ -22,7 +22,7 @@ Floor296KeepsItAnd297EndsIt =
     ∷ looks ⇒ one_open 10020 0 (viewed 1 Buy 100 304)
     ∷ book_bids 10030 296 ⇒ accepted
     ∷ looks ⇒ none_open 10030 1
-    ∷ collects 1 ⇒ collected 2 FloorAboveResponse (row Sealed Other 2 1 296 10 0 ∷ contra_row 300 90 ∷ [])
+    ∷ collects 1 ⇒ collected 2 (byte "C") (row Sealed Other 2 1 296 10 0 ∷ contra_row 300 90 ∷ [])
     ∷ [])
 
 -- The same auction: the book offers 301, and the contra price of 300 keeps it open; it offers 300, and the contra price
@@ -36,7 +36,7 @@ Contra300KeepsItAnd299EndsIt =
     ∷ looks ⇒ one_open 10020 0 (viewed 1 Buy 100 304)
     ∷ book_tick 10030 293 300 ⇒ accepted
     ∷ looks ⇒ none_open 10030 1
-    ∷ collects 1 ⇒ collected 2 ContraBelowGuarantee (row Sealed Other 2 1 296 10 0 ∷ contra_row 300 90 ∷ [])
+    ∷ collects 1 ⇒ collected 2 (byte "F") (row Sealed Other 2 1 296 10 0 ∷ contra_row 300 90 ∷ [])
     ∷ [])
 
 -- Opened at 10,000 with an interval of 100: open at 10,099, ended at 10,100.
@@ -48,7 +48,7 @@ OpenAt10099AndEndedAt10100 =
     ∷ looks ⇒ one_open 10099 0 (viewed 1 Buy 100 304)
     ∷ clock 10100 ⇒ accepted
     ∷ looks ⇒ none_open 10100 1
-    ∷ collects 1 ⇒ collected 1 Deadline (contra_row 300 100 ∷ [])
+    ∷ collects 1 ⇒ collected 1 (byte "T") (contra_row 300 100 ∷ [])
     ∷ [])
 
 -- An order to buy: with a limit of 293 it is refusal 15, and with a limit of 294 it opens, at the initiating price 294.
@@ -103,7 +103,7 @@ Stop290IsStoredAs294 =
     × Day
     (buys 10000 100 310 (stop 290) ⇒ claim 1
     ∷ clock 10100 ⇒ accepted
-    ∷ collects 1 ⇒ collected 1 Deadline (contra_row 294 100 ∷ [])
+    ∷ collects 1 ⇒ collected 1 (byte "T") (contra_row 294 100 ∷ [])
     ∷ [])
 
 -- Mirrored, an order to sell with a stop of 310: turned, it is below the floor.
@@ -117,7 +117,7 @@ SellStop310IsStoredAs304 =
     × Day
     (sells 10000 100 290 (stop 310) ⇒ claim 1
     ∷ clock 10100 ⇒ accepted
-    ∷ collects 1 ⇒ collected 1 Deadline (contra_row 304 100 ∷ [])
+    ∷ collects 1 ⇒ collected 1 (byte "T") (contra_row 304 100 ∷ [])
     ∷ [])
 
 -- Buy 1 and sell 1, not yet quoted.

@@ -2,14 +2,13 @@
 -- responses that stood, whose responses and changes it accepted, why it ended, and what a look tells then. It is told of
 -- the runs for each cause.
 use Rattle.std.specs.Prelude.{◌≡◌, ℕ, true, List, [], ◌∷◌, drop, ℤ, pos, neg_ℤ, Some}
+use Rattle.std.specs.Str.{byte}
 use Rattle.market.specs.declared.better_of.Half.{Half}
-use Rattle.market.specs.declared.fault.Fault.{Fault}
+use Rattle.market.specs.Faults.{FaultTold}
 use Rattle.market.specs.declared.legs.leg.LegTick.{LegTick}
 use Rattle.market.specs.declared.quote.Quote.{Quote}
 use Rattle.market.specs.declared.side.Side.TheVariants.{Buy, Sell}
 use Rattle.interval.specs.declared.fixed.FixedInterval.{FixedInterval}
-use Rattle.allocation.specs.declared.cause.EndCause.{EndCause}
-use Rattle.allocation.specs.declared.cause.EndCause.TheVariants.{NextAuction, FloorAboveInitiating, FloorAboveResponse, FloorAboveStop, PlainBelowFloor, ContraBelowGuarantee, Halt, Deadline}
 use Rattle.allocation.specs.declared.order.Guarantee.{Guarantee}
 use Rattle.allocation.specs.declared.response.Class.{Class}
 use Rattle.allocation.specs.declared.response.Class.TheVariants.{Customer, Other}
@@ -33,7 +32,7 @@ abbrev pub moments : List Line → List (CubeMoment FixedInterval)
 moments ls = newest_first [] (run by_arrival this_room unquoted_market hundred (day_calls ls))
 
 -- Its history.
-abbrev pub history : List Line → List (Exchange (Half Quote LegTick) (Half Fault Fault))
+abbrev pub history : List Line → List (Exchange (Half Quote LegTick) (Half FaultTold FaultTold))
 history ls = history_of (moments ls)
 
 -- An order to buy as handed in, and opened on the market that shows 294 and 304 with an interval of 100: time, size, limit
@@ -63,7 +62,7 @@ standing kind class member own size price arrival =
 -- The history of a day tells this of auction 1: its opening, its floor (turned), the responses that stood, the members of
 -- the responses and changes that it accepted, the last first, and its cause. It ended at one moment. The last call collected
 -- it: before it a look tells this, and after it none waits.
-abbrev pub Tells : List Line → OpeningFacts → ℤ → List Told → List ℕ → EndCause → CubeAnswer → Type 0
+abbrev pub Tells : List Line → OpeningFacts → ℤ → List Told → List ℕ → ℕ → CubeAnswer → Type 0
 Tells ls facts floor stood storing cause look =
     (story_of by_arrival unquoted_market hundred 1 (history ls) ≡ Some (record { opening = facts; floor = floor; stood = stood; storing = storing; ended = Some cause }))
     × (times_ended 1 (moments ls) ≡ 1)
@@ -76,56 +75,56 @@ abbrev pub HistoryTellsAnotherOpening : Type 0
 HistoryTellsAnotherOpening =
     Tells next_auction_run (sold_at 20000 50 290 (auto_match 298) 294) (neg_ℤ (pos 304))
     (standing Sealed Other 2 1 10 300 1 ∷ standing Plain Customer 3 1 5 298 2 ∷ standing Sealed Other 4 2 12 297 4 ∷ [])
-    (5 ∷ 4 ∷ 4 ∷ 3 ∷ 2 ∷ []) NextAuction (one_open 20060 1 (viewed 2 Buy 10 304))
+    (5 ∷ 4 ∷ 4 ∷ 3 ∷ 2 ∷ []) (byte "A") (one_open 20060 1 (viewed 2 Buy 10 304))
 
 -- B: the floor is 294, since the ending tick does not count.
 abbrev pub HistoryTellsTheFloorAboveTheInitiatingPrice : Type 0
 HistoryTellsTheFloorAboveTheInitiatingPrice =
     Tells floor_above_initiating_run (bought_at 30000 20 299 (auto_match 296) 299) (pos 294)
     (standing Plain Other 2 1 20 297 1 ∷ standing Sealed Customer 3 1 4 299 2 ∷ standing Sealed Other 4 1 6 296 4 ∷ [])
-    (5 ∷ 4 ∷ 4 ∷ 3 ∷ 2 ∷ []) FloorAboveInitiating (none_open 30060 1)
+    (5 ∷ 4 ∷ 4 ∷ 3 ∷ 2 ∷ []) (byte "B") (none_open 30060 1)
 
 -- C: the same, turned, of an order to sell: the floor is 304. The changed response keeps its place and arrived last.
 abbrev pub HistoryTellsTheFloorAboveAResponse : Type 0
 HistoryTellsTheFloorAboveAResponse =
     Tells floor_above_response_run (sold_at 40000 40 290 (stop 296) 294) (neg_ℤ (pos 304))
     (standing Sealed Other 2 1 22 301 4 ∷ standing Plain Other 3 1 10 296 2 ∷ standing Sealed Customer 4 1 5 295 3 ∷ [])
-    (5 ∷ 2 ∷ 4 ∷ 3 ∷ 2 ∷ []) FloorAboveResponse (none_open 40060 1)
+    (5 ∷ 2 ∷ 4 ∷ 3 ∷ 2 ∷ []) (byte "C") (none_open 40060 1)
 
 -- D: the floor is 294 again, and not the 297 above the stop.
 abbrev pub HistoryTellsTheFloorAboveTheStop : Type 0
 HistoryTellsTheFloorAboveTheStop =
     Tells floor_above_stop_run (bought_at 50000 10 310 (stop 296) 304) (pos 294)
     (standing Sealed Other 2 1 7 300 3 ∷ standing Plain Customer 3 1 4 298 2 ∷ [])
-    (4 ∷ 2 ∷ 3 ∷ 2 ∷ []) FloorAboveStop (none_open 50060 1)
+    (4 ∷ 2 ∷ 3 ∷ 2 ∷ []) (byte "D") (none_open 50060 1)
 
 -- E: the response that ended it stood too.
 abbrev pub HistoryTellsAPlainResponseBelowTheFloor : Type 0
 HistoryTellsAPlainResponseBelowTheFloor =
     Tells plain_below_floor_run (sold_at 60000 30 290 (auto_match 300) 294) (neg_ℤ (pos 304))
     (standing Sealed Other 2 1 30 304 1 ∷ standing Sealed Customer 3 1 5 304 3 ∷ standing Plain Other 5 1 20 304 5 ∷ [])
-    (5 ∷ 4 ∷ 3 ∷ 3 ∷ 2 ∷ []) PlainBelowFloor (none_open 60060 1)
+    (5 ∷ 4 ∷ 3 ∷ 3 ∷ 2 ∷ []) (byte "E") (none_open 60060 1)
 
 -- F: two responses, the first as changed.
 abbrev pub HistoryTellsTheContraPriceBelowTheGuarantee : Type 0
 HistoryTellsTheContraPriceBelowTheGuarantee =
     Tells contra_below_guarantee_run (bought_at 70000 100 310 (stop 302) 304) (pos 294)
     (standing Sealed Other 2 1 45 302 3 ∷ standing Plain Other 3 1 30 302 2 ∷ [])
-    (4 ∷ 2 ∷ 3 ∷ 2 ∷ []) ContraBelowGuarantee (none_open 70060 1)
+    (4 ∷ 2 ∷ 3 ∷ 2 ∷ []) (byte "F") (none_open 70060 1)
 
 -- H: the changed size is told as stored, 15; the room is halted.
 abbrev pub HistoryTellsAHalt : Type 0
 HistoryTellsAHalt =
     Tells halt_run (sold_at 80000 15 300 (stop 301) 300) (neg_ℤ (pos 304))
     (standing Sealed Other 2 1 15 301 3 ∷ standing Plain Other 3 1 4 302 2 ∷ [])
-    (4 ∷ 2 ∷ 3 ∷ 2 ∷ []) Halt (none_open_halted 80060 1)
+    (4 ∷ 2 ∷ 3 ∷ 2 ∷ []) (byte "H") (none_open_halted 80060 1)
 
 -- T: three responses, the second as changed.
 abbrev pub HistoryTellsTheDeadline : Type 0
 HistoryTellsTheDeadline =
     Tells (deadline_run rows_by_arrival) (bought_at 10000 100 310 (stop 300) 304) (pos 294)
     (standing Sealed Customer 2 1 30 300 1 ∷ standing Sealed Other 3 1 50 300 4 ∷ standing Plain Other 4 1 20 300 3 ∷ [])
-    (5 ∷ 3 ∷ 4 ∷ 3 ∷ 2 ∷ []) Deadline (none_open 10100 1)
+    (5 ∷ 3 ∷ 4 ∷ 3 ∷ 2 ∷ []) (byte "T") (none_open 10100 1)
 
 -- The list.
 abbrev pub HistoriesTellTheSame : Type 0

@@ -2,8 +2,8 @@
 -- multiple of 901 (1,127,157 × 901 = 1,015,568,457): the first interval is 391. The seed after that is 1,586,005,467, 395
 -- over a multiple of 901 (1,760,272 × 901 = 1,586,005,072): the second interval is 495.
 use Rattle.std.specs.Prelude.{[], ◌∷◌}
+use Rattle.std.specs.Str.{byte}
 use Rattle.market.specs.declared.side.Side.TheVariants.{Buy, Sell}
-use Rattle.allocation.specs.declared.cause.EndCause.TheVariants.{NextAuction, Deadline}
 use Rattle.allocation.specs.declared.response.Class.TheVariants.{Other}
 use Rattle.allocation.specs.declared.response.Kind.TheVariants.{Sealed}
 use Rattle.worked_runs.specs.Rooms.{DayBySteps}
@@ -19,7 +19,7 @@ DeadlinesOfTwoDraws =
     ∷ looks ⇒ one_open 1390 0 (viewed 1 Buy 100 304)
     ∷ clock 1391 ⇒ accepted
     ∷ looks ⇒ none_open 1391 1
-    ∷ collects 1 ⇒ collected 1 Deadline (contra_row 300 100 ∷ [])
+    ∷ collects 1 ⇒ collected 1 (byte "T") (contra_row 300 100 ∷ [])
     ∷ buys 1500 100 310 (stop 305) ⇒ refused 16
     ∷ sells 2000 100 290 (stop 300) ⇒ claim 2
     ∷ clock 2494 ⇒ accepted
@@ -41,9 +41,9 @@ EachOpeningHasItsOwnDeadline =
     ∷ looks ⇒ one_open 1694 1 (viewed 2 Buy 50 304)
     ∷ clock 1695 ⇒ accepted
     ∷ looks ⇒ none_open 1695 2
-    ∷ collects 1 ⇒ collected 1 NextAuction (contra_row 300 100 ∷ [])
+    ∷ collects 1 ⇒ collected 1 (byte "A") (contra_row 300 100 ∷ [])
     -- Just one response stands, so the contra's share is 25 of 50. At 300 both get 10, and at 304 the contra the other 30.
-    ∷ collects 2 ⇒ collected 3 Deadline (contra_row 300 10 ∷ row Sealed Other 2 1 300 10 0 ∷ contra_row 304 30 ∷ [])
+    ∷ collects 2 ⇒ collected 3 (byte "T") (contra_row 300 10 ∷ row Sealed Other 2 1 300 10 0 ∷ contra_row 304 30 ∷ [])
     ∷ [])
 
 -- The list.

@@ -1,8 +1,8 @@
 -- What a member is shown of two days that differ in what is hidden from it.
 use Rattle.std.specs.Prelude.{◌≡◌, Bool, true, false, List, [], ◌∷◌, ◌++◌, map, is_some, Some, None, Option}
+use Rattle.std.specs.Str.{byte}
 use Rattle.market.specs.declared.side.Side.TheVariants.{Buy}
 use Rattle.interval.specs.declared.fixed.FixedInterval.{FixedInterval}
-use Rattle.allocation.specs.declared.cause.EndCause.TheVariants.{Deadline}
 use Rattle.allocation.specs.declared.response.Class.TheVariants.{Customer, Other}
 use Rattle.allocation.specs.declared.response.Kind.TheVariants.{Sealed, Plain}
 use Rattle.room.specs.State.{new_room}
@@ -31,7 +31,7 @@ stop_day =
     ∷ looks ⇒ one_open 10060 0 (viewed 1 Buy 100 304)
     ∷ clock 10100 ⇒ accepted
     ∷ looks ⇒ none_open 10100 1
-    ∷ collects 1 ⇒ collected 4 Deadline (contra_row 300 80 ∷ row Sealed Other 5 1 300 20 0 ∷ row Sealed Customer 2 1 301 0 10 ∷ row Plain Other 3 1 303 0 5 ∷ [])
+    ∷ collects 1 ⇒ collected 4 (byte "T") (contra_row 300 80 ∷ row Sealed Other 5 1 300 20 0 ∷ row Sealed Customer 2 1 301 0 10 ∷ row Plain Other 3 1 303 0 5 ∷ [])
     ∷ []
 
 -- The same calls but for what is hidden from member 5: an auto-match limit of 298; member 2 has 99 at 304, and its change
@@ -49,7 +49,7 @@ auto_match_day =
     ∷ looks ⇒ one_open 10060 0 (viewed 1 Buy 100 304)
     ∷ clock 10100 ⇒ accepted
     ∷ looks ⇒ none_open 10100 1
-    ∷ collects 1 ⇒ collected 5 Deadline (row Plain Customer 3 1 296 40 0 ∷ contra_row 300 20 ∷ row Sealed Other 5 1 300 20 0 ∷ contra_row 304 20 ∷ row Sealed Other 2 1 304 0 99 ∷ [])
+    ∷ collects 1 ⇒ collected 5 (byte "T") (row Plain Customer 3 1 296 40 0 ∷ contra_row 300 20 ∷ row Sealed Other 5 1 300 20 0 ∷ contra_row 304 20 ∷ row Sealed Other 2 1 304 0 99 ∷ [])
     ∷ []
 
 -- Where an auction opens and where one ends, in both days: at the fourth call, and at the twelfth.
@@ -138,7 +138,7 @@ stop_day_with_refusals =
     ∷ changes 10050 5 1 0 290 ⇒ refused 3
     ∷ clock 10100 ⇒ accepted
     ∷ looks ⇒ none_open 10100 1
-    ∷ collects 1 ⇒ collected 3 Deadline (row Sealed Other 5 1 294 20 0 ∷ row Sealed Customer 2 1 299 10 0 ∷ contra_row 300 70 ∷ [])
+    ∷ collects 1 ⇒ collected 3 (byte "T") (row Sealed Other 5 1 294 20 0 ∷ row Sealed Customer 2 1 299 10 0 ∷ contra_row 300 70 ∷ [])
     ∷ []
 
 -- An auto-match limit of 298; member 2, not a customer, has 99 at 304. The price and the class beside the size of 0 are
@@ -159,7 +159,7 @@ auto_match_day_with_refusals =
     ∷ changes 10050 5 1 0 290 ⇒ refused 3
     ∷ clock 10100 ⇒ accepted
     ∷ looks ⇒ none_open 10100 1
-    ∷ collects 1 ⇒ collected 3 Deadline (row Sealed Other 5 1 294 20 0 ∷ contra_row 304 40 ∷ row Sealed Other 2 1 304 40 59 ∷ [])
+    ∷ collects 1 ⇒ collected 3 (byte "T") (row Sealed Other 5 1 294 20 0 ∷ contra_row 304 40 ∷ row Sealed Other 2 1 304 40 59 ∷ [])
     ∷ []
 
 -- Behind the three first quotes an auction opens in both at the seventh call, and ends at the fifteenth.

@@ -1,9 +1,9 @@
 -- Every refusal of a room, by the venue's number. Each is told by some run, but for 17 and 27, which a million openings and
 -- 10,000 responses earn: they are told by a room that is put together by hand.
 use Rattle.std.specs.Prelude.{◌≡◌, ℕ, false, [], ◌∷◌, ◌++◌, pos, neg_ℤ, Some, None}
+use Rattle.std.specs.Str.{byte}
 use Rattle.market.specs.declared.side.Side.TheVariants.{Buy, Sell}
 use Rattle.interval.specs.declared.fixed.FixedInterval.{FixedInterval}
-use Rattle.allocation.specs.declared.cause.EndCause.TheVariants.{Halt, Deadline}
 use Rattle.allocation.specs.declared.response.Class.TheVariants.{Other}
 use Rattle.allocation.specs.declared.response.Kind.TheVariants.{Sealed, Plain}
 use Rattle.room.specs.State.{OpenAuction}
@@ -122,7 +122,7 @@ CollectingRefused =
     ∷ collects_with this_room 1 128 ⇒ refused 6
     ∷ collects_with 8 1 129 ⇒ refused 42
     ∷ looks ⇒ none_open 10100 1
-    ∷ collects 1 ⇒ collected 1 Deadline (contra_row 300 100 ∷ [])
+    ∷ collects 1 ⇒ collected 1 (byte "T") (contra_row 300 100 ∷ [])
     ∷ collects 1 ⇒ refused 42
     ∷ looks ⇒ none_open 10100 0
     ∷ [])
@@ -140,7 +140,7 @@ OpeningRefusedByTheRoom =
     ∷ resumes 10030 ⇒ accepted
     ∷ resumes 10030 ⇒ accepted
     ∷ buys 10040 100 293 (stop 305) ⇒ refused 13
-    ∷ collects 1 ⇒ collected 1 Halt (contra_row 300 100 ∷ [])
+    ∷ collects 1 ⇒ collected 1 (byte "H") (contra_row 300 100 ∷ [])
     ∷ buys 10050 100 293 (stop 305) ⇒ refused 15
     ∷ buys 10050 100 310 (stop 305) ⇒ refused 16
     ∷ buys 10060 100 310 (stop 304) ⇒ claim 2
@@ -192,7 +192,7 @@ WaitingBeforeWantOfAPrice =
     ∷ book_bids 50 290 ⇒ accepted
     ∷ buys 60 100 310 (stop 300) ⇒ refused 13
     ∷ looks ⇒ none_open 60 1
-    ∷ collects 1 ⇒ collected 1 Halt (contra_row 300 100 ∷ [])
+    ∷ collects 1 ⇒ collected 1 (byte "H") (contra_row 300 100 ∷ [])
     ∷ buys 70 100 310 (stop 300) ⇒ refused 14
     ∷ looks ⇒ none_open 70 0
     ∷ [])

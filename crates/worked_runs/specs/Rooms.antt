@@ -2,11 +2,11 @@
 use Rattle.std.specs.Prelude.{◌≡◌, ℕ, List, [], ◌∷◌, ◌++◌, map}
 use Rattle.std.proofs.Common.{lit≤}
 use Rattle.market.specs.declared.better_of.Half.{Half}
-use Rattle.market.specs.declared.fault.Fault.{Fault}
 use Rattle.market.specs.declared.legs.leg.Leg.{Leg}
 use Rattle.market.specs.declared.legs.leg.LegTick.{LegTick}
 use Rattle.market.specs.declared.quote.Quote.{Quote}
 use Rattle.market.specs.declared.side.Side.TheVariants.{Buy, Sell}
+use Rattle.market.specs.Faults.{FaultTold}
 use Rattle.market.specs.Cube.{CubePosition, cube_start, cube_meaning}
 use Rattle.market.specs.Legs.{unquoted}
 use Rattle.interval.specs.declared.fixed.FixedInterval.{FixedInterval}
@@ -20,10 +20,10 @@ use Rattle.worked_runs.specs.Script.{CubeCall, CubeAnswer, Line, ◌⇒◌, call
 
 -- Ticks and faults of the CUBE market, beside its position, over a source of positions Q.
 abbrev pub CubeWorld : Type 0 → Type 0
-CubeWorld Q = World CubePosition (Half Quote LegTick) (Half Fault Fault) Q
+CubeWorld Q = World CubePosition (Half Quote LegTick) (Half FaultTold FaultTold) Q
 
 abbrev pub CubeMoment : Type 0 → Type 0
-CubeMoment Q = Moment CubePosition (Half Quote LegTick) (Half Fault Fault) Q
+CubeMoment Q = Moment CubePosition (Half Quote LegTick) (Half FaultTold FaultTold) Q
 
 abbrev pub CubeRoom : Type 0 → Type 0
 CubeRoom Q = RoomState CubePosition Q

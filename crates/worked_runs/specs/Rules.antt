@@ -1,11 +1,11 @@
 -- Rules of a room that a run makes visible.
 use Rattle.std.specs.Prelude.{◌≡◌, ℕ, List, [], ◌∷◌, map, ℤ, pos, Some, None, Option}
+use Rattle.std.specs.Str.{byte}
 use Rattle.std.specs.Option.{option_map}
 use Rattle.market.specs.declared.side.Side.TheVariants.{Buy, Sell}
 use Rattle.market.specs.Cube.{CubePosition}
 use Rattle.market.specs.Meaning.{nothing_shown}
 use Rattle.interval.specs.declared.fixed.FixedInterval.{FixedInterval}
-use Rattle.allocation.specs.declared.cause.EndCause.TheVariants.{NextAuction, FloorAboveInitiating, FloorAboveResponse, FloorAboveStop, PlainBelowFloor, ContraBelowGuarantee, Deadline}
 use Rattle.allocation.specs.declared.response.Class.TheVariants.{Customer, Other}
 use Rattle.allocation.specs.declared.response.Kind.TheVariants.{Sealed, Plain}
 use Rattle.room.specs.State.{OpenAuction, EndedAuction}
@@ -44,7 +44,7 @@ TradesBelowTheFloorThatEndedIt =
     (buys 10000 100 310 (stop 300) ⇒ claim 1
     ∷ offers Plain Other 10010 2 1 10 296 ⇒ stored 10 296
     ∷ book_bids 10020 296 ⇒ accepted
-    ∷ collects 1 ⇒ collected 2 FloorAboveResponse (row Plain Other 2 1 296 10 0 ∷ contra_row 300 90 ∷ [])
+    ∷ collects 1 ⇒ collected 2 (byte "C") (row Plain Other 2 1 296 10 0 ∷ contra_row 300 90 ∷ [])
     ∷ [])
 
 -- The floor that a tick leaves counts for the responses after it: it rises to 297, and falls to 293, the legs' improved
@@ -60,7 +60,7 @@ FloorFollowsTheTicks =
     ∷ book_empties 10040 ⇒ accepted
     ∷ offers Sealed Other 10050 3 1 10 290 ⇒ stored 10 293
     ∷ clock 10100 ⇒ accepted
-    ∷ collects 1 ⇒ collected 3 Deadline (row Sealed Other 3 1 293 10 0 ∷ row Sealed Other 2 1 297 10 0 ∷ contra_row 300 80 ∷ [])
+    ∷ collects 1 ⇒ collected 3 (byte "T") (row Sealed Other 3 1 293 10 0 ∷ row Sealed Other 2 1 297 10 0 ∷ contra_row 300 80 ∷ [])
     ∷ [])
 
 -- A side that shows no price changes nothing: no leg is quoted here, and the book goes from 293 and 305 to none. The
@@ -85,7 +85,7 @@ FloorAboveAnAutoMatchLimitEndsNothing =
     ∷ book_bids 10020 302 ⇒ accepted
     ∷ looks ⇒ one_open 10020 0 (viewed 1 Buy 10 304)
     ∷ clock 10100 ⇒ accepted
-    ∷ collects 1 ⇒ collected 1 Deadline (contra_row 304 10 ∷ [])
+    ∷ collects 1 ⇒ collected 1 (byte "T") (contra_row 304 10 ∷ [])
     ∷ [])
 
 -- Two responses of one member: the contra's share is 40% of 100, and each gets 30 of its 50.
@@ -96,7 +96,7 @@ TwoResponsesOfOneMemberMake40 =
     ∷ offers Sealed Other 10010 2 1 50 300 ⇒ stored 50 300
     ∷ offers Sealed Other 10020 2 2 50 300 ⇒ stored 50 300
     ∷ clock 10100 ⇒ accepted
-    ∷ collects 1 ⇒ collected 3 Deadline (contra_row 300 40 ∷ row Sealed Other 2 1 300 30 20 ∷ row Sealed Other 2 2 300 30 20 ∷ [])
+    ∷ collects 1 ⇒ collected 3 (byte "T") (contra_row 300 40 ∷ row Sealed Other 2 1 300 30 20 ∷ row Sealed Other 2 2 300 30 20 ∷ [])
     ∷ [])
 
 -- With one of them withdrawn just one stands: the share is 50%, and the one left gets its 50.
@@ -108,7 +108,7 @@ OneResponseMakes50 =
     ∷ offers Sealed Other 10020 2 2 50 300 ⇒ stored 50 300
     ∷ withdraws 10030 2 2 ⇒ stored 50 300
     ∷ clock 10100 ⇒ accepted
-    ∷ collects 1 ⇒ collected 2 Deadline (contra_row 300 50 ∷ row Sealed Other 2 1 300 50 10 ∷ [])
+    ∷ collects 1 ⇒ collected 2 (byte "T") (contra_row 300 50 ∷ row Sealed Other 2 1 300 50 10 ∷ [])
     ∷ [])
 
 -- A plain response priced below the floor is stored at the floor and answered so, and then ends the auction. A sealed one
@@ -123,7 +123,7 @@ PlainBelowTheFloorEndsAndSealedDoesNot =
     ∷ looks ⇒ one_open 10030 0 (viewed 1 Buy 100 304)
     ∷ offers Plain Customer 10040 4 1 10 293 ⇒ stored 10 294
     ∷ looks ⇒ none_open 10040 1
-    ∷ collects 1 ⇒ collected 4 PlainBelowFloor (row Plain Customer 4 1 294 10 0 ∷ row Sealed Other 2 1 294 20 0 ∷ row Plain Other 3 1 294 10 0 ∷ contra_row 300 60 ∷ [])
+    ∷ collects 1 ⇒ collected 4 (byte "E") (row Plain Customer 4 1 294 10 0 ∷ row Sealed Other 2 1 294 20 0 ∷ row Plain Other 3 1 294 10 0 ∷ contra_row 300 60 ∷ [])
     ∷ [])
 
 -- At most two auctions wait. The first ends for A by the second's opening; while it waits no other opens. The second then
@@ -138,9 +138,9 @@ AtMostTwoWait =
     ∷ clock 10110 ⇒ accepted
     ∷ looks ⇒ none_open 10110 2
     ∷ buys 10120 100 310 (stop 300) ⇒ refused 13
-    ∷ collects 2 ⇒ collected 1 Deadline (contra_row 300 20 ∷ [])
+    ∷ collects 2 ⇒ collected 1 (byte "T") (contra_row 300 20 ∷ [])
     ∷ buys 10130 100 310 (stop 300) ⇒ refused 13
-    ∷ collects 1 ⇒ collected 1 NextAuction (contra_row 300 100 ∷ [])
+    ∷ collects 1 ⇒ collected 1 (byte "A") (contra_row 300 100 ∷ [])
     ∷ looks ⇒ none_open 10130 0
     ∷ buys 10140 100 310 (stop 300) ⇒ claim 3
     ∷ [])
@@ -152,17 +152,17 @@ DeadlineBeforeTheCall =
     Day
     (buys 10000 100 310 (stop 300) ⇒ claim 1
     ∷ buys 10100 100 310 (stop 300) ⇒ refused 13
-    ∷ collects 1 ⇒ collected 1 Deadline (contra_row 300 100 ∷ [])
+    ∷ collects 1 ⇒ collected 1 (byte "T") (contra_row 300 100 ∷ [])
     ∷ buys 20000 100 310 (stop 300) ⇒ claim 2
     ∷ offers Plain Other 20100 2 1 10 290 ⇒ refused 21
-    ∷ collects 2 ⇒ collected 1 Deadline (contra_row 300 100 ∷ [])
+    ∷ collects 2 ⇒ collected 1 (byte "T") (contra_row 300 100 ∷ [])
     ∷ buys 30000 100 310 (stop 300) ⇒ claim 3
     ∷ halts 30100 ⇒ accepted
-    ∷ collects 3 ⇒ collected 1 Deadline (contra_row 300 100 ∷ [])
+    ∷ collects 3 ⇒ collected 1 (byte "T") (contra_row 300 100 ∷ [])
     ∷ resumes 30100 ⇒ accepted
     ∷ buys 40000 100 310 (stop 300) ⇒ claim 4
     ∷ book_bids 40100 310 ⇒ accepted
-    ∷ collects 4 ⇒ collected 1 Deadline (contra_row 300 100 ∷ [])
+    ∷ collects 4 ⇒ collected 1 (byte "T") (contra_row 300 100 ∷ [])
     ∷ [])
 
 -- The room's time never goes back: a call with an earlier time is made at the room's time.
@@ -189,7 +189,7 @@ WithdrawnFreesItsOwnNumber =
     ∷ withdraws 10020 2 1 ⇒ refused 25
     ∷ offers Plain Customer 10030 2 1 20 297 ⇒ stored 20 297
     ∷ clock 10100 ⇒ accepted
-    ∷ collects 1 ⇒ collected 2 Deadline (row Plain Customer 2 1 297 20 0 ∷ contra_row 300 80 ∷ [])
+    ∷ collects 1 ⇒ collected 2 (byte "T") (row Plain Customer 2 1 297 20 0 ∷ contra_row 300 80 ∷ [])
     ∷ [])
 
 -- The causes of a tick in their order, of three auctions with a response at 296 and a stop of 300. A floor of 305 is above
@@ -202,17 +202,17 @@ CausesOfATickInTheirOrder =
     (buys 10000 10 310 (stop 300) ⇒ claim 1
     ∷ offers Plain Other 10010 2 1 4 296 ⇒ stored 4 296
     ∷ book_tick 10020 304 320 ⇒ accepted
-    ∷ collects 1 ⇒ collected 2 FloorAboveInitiating (row Plain Other 2 1 296 4 0 ∷ contra_row 300 6 ∷ [])
+    ∷ collects 1 ⇒ collected 2 (byte "B") (row Plain Other 2 1 296 4 0 ∷ contra_row 300 6 ∷ [])
     ∷ book_bids 20000 293 ⇒ accepted
     ∷ buys 20000 10 310 (stop 300) ⇒ claim 2
     ∷ offers Plain Other 20010 2 1 4 296 ⇒ stored 4 296
     ∷ book_bids 20020 300 ⇒ accepted
-    ∷ collects 2 ⇒ collected 2 FloorAboveResponse (row Plain Other 2 1 296 4 0 ∷ contra_row 300 6 ∷ [])
+    ∷ collects 2 ⇒ collected 2 (byte "C") (row Plain Other 2 1 296 4 0 ∷ contra_row 300 6 ∷ [])
     ∷ book_bids 30000 293 ⇒ accepted
     ∷ buys 30000 10 310 (stop 300) ⇒ claim 3
     ∷ offers Plain Other 30010 2 1 4 296 ⇒ stored 4 296
     ∷ book_tick 30020 297 299 ⇒ accepted
-    ∷ collects 3 ⇒ collected 2 FloorAboveResponse (row Plain Other 2 1 296 4 0 ∷ contra_row 300 6 ∷ [])
+    ∷ collects 3 ⇒ collected 2 (byte "C") (row Plain Other 2 1 296 4 0 ∷ contra_row 300 6 ∷ [])
     ∷ [])
 
 -- A book one cent wide crosses once it is improved, and ends an auction beside it: 300 and 301 become a floor of 301, above
@@ -222,11 +222,11 @@ CrossedMarketEndsAnAuction =
     Day
     (buys 10000 10 310 (stop 300) ⇒ claim 1
     ∷ book_tick 10010 300 301 ⇒ accepted
-    ∷ collects 1 ⇒ collected 1 FloorAboveStop (contra_row 300 10 ∷ [])
+    ∷ collects 1 ⇒ collected 1 (byte "D") (contra_row 300 10 ∷ [])
     ∷ book_bids 20000 293 ⇒ accepted
     ∷ buys 20000 10 310 (stop 300) ⇒ claim 2
     ∷ book_tick 20010 299 300 ⇒ accepted
-    ∷ collects 2 ⇒ collected 1 ContraBelowGuarantee (contra_row 300 10 ∷ [])
+    ∷ collects 2 ⇒ collected 1 (byte "F") (contra_row 300 10 ∷ [])
     ∷ [])
 
 -- The same legs, not quoted, beside a book that is improved by nine cents, so that one of its quotes can cross by more than a cent.
@@ -242,7 +242,7 @@ FloorAboveStopBeforeContraBelowGuarantee =
     ∷ buys 10000 100 310 (stop 300) ⇒ claim 1
     ∷ book_tick 10010 298 300 ⇒ accepted
     ∷ looks ⇒ none_open 10010 1
-    ∷ collects 1 ⇒ collected 1 FloorAboveStop (contra_row 300 100 ∷ [])
+    ∷ collects 1 ⇒ collected 1 (byte "D") (contra_row 300 100 ∷ [])
     ∷ [])
 
 -- A contra that has matched more than its share lacks none of it: of 100 its share is 40, and at 298 it matches 45; at 304, the
@@ -254,7 +254,7 @@ NothingLackingAtTheInitiatingPrice =
     ∷ offers Sealed Other 10010 2 1 45 298 ⇒ stored 45 298
     ∷ offers Sealed Other 10010 3 1 30 304 ⇒ stored 30 304
     ∷ clock 10100 ⇒ accepted
-    ∷ collects 1 ⇒ collected 3 Deadline (contra_row 298 45 ∷ row Sealed Other 2 1 298 45 0 ∷ row Sealed Other 3 1 304 10 20 ∷ [])
+    ∷ collects 1 ⇒ collected 3 (byte "T") (contra_row 298 45 ∷ row Sealed Other 2 1 298 45 0 ∷ row Sealed Other 3 1 304 10 20 ∷ [])
     ∷ [])
 
 -- The list.

@@ -2,13 +2,11 @@
 use Rattle.std.specs.Prelude.{ℕ, true, false, List, map, pos, Some, None}
 use Rattle.market.specs.declared.better_of.Half.{Half}
 use Rattle.market.specs.declared.better_of.Half.TheVariants.{Left, Right}
-use Rattle.market.specs.declared.fault.Fault.{Fault}
 use Rattle.market.specs.declared.legs.leg.LegTick.{LegTick}
 use Rattle.market.specs.declared.quote.Quote.{Quote}
 use Rattle.market.specs.declared.side.Side.{Side}
 use Rattle.market.specs.declared.side.Side.TheVariants.{Buy, Sell}
-use Rattle.market.specs.Faults.{cause_numbered}
-use Rattle.allocation.specs.declared.cause.EndCause.{EndCause}
+use Rattle.market.specs.Faults.{FaultTold}
 use Rattle.allocation.specs.declared.fill.FillRow.{FillRow}
 use Rattle.allocation.specs.declared.order.Guarantee.{Guarantee}
 use Rattle.allocation.specs.declared.order.GuaranteeKind.TheVariants.{SingleStop, AutoMatchLimit}
@@ -17,8 +15,7 @@ use Rattle.allocation.specs.declared.response.Class.TheVariants.{Other}
 use Rattle.allocation.specs.declared.response.Kind.{Kind}
 use Rattle.allocation.specs.declared.response.Kind.TheVariants.{Plain}
 use Rattle.room.specs.declared.answers.AuctionView.{AuctionView}
-use Rattle.room.specs.declared.refusal.Refusal.TheVariants.{MarketFault}
-use Rattle.room.specs.Refusals.{refusal}
+use Rattle.room.specs.Refusals.{by_number}
 use Rattle.session.specs.declared.calls.Call.{Call}
 use Rattle.session.specs.declared.calls.Call.TheVariants.{Open, Respond, Change, Withdraw, Tick, Halt, Resume, Clock, Look, Collect}
 use Rattle.session.specs.Runs.{Answer, Opened, Stored, Accepted, Looked, Collected, Refused}
@@ -28,7 +25,7 @@ abbrev pub CubeCall : Type 0
 CubeCall = Call (Half Quote LegTick)
 
 abbrev pub CubeAnswer : Type 0
-CubeAnswer = Answer (Half Fault Fault)
+CubeAnswer = Answer (Half FaultTold FaultTold)
 
 -- A line of a script: a call, and what it is answered.
 pub record Line : Type 0 where
@@ -159,7 +156,7 @@ abbrev pub one_open : ℕ → ℕ → AuctionView → CubeAnswer
 one_open time waiting view = Looked (record { time = time; halted = false; waiting = waiting; auction = Some view })
 
 -- A collecting: how many rows there are, why the auction ended, and the rows.
-abbrev pub collected : ℕ → EndCause → List FillRow → CubeAnswer
+abbrev pub collected : ℕ → ℕ → List FillRow → CubeAnswer
 collected count cause rows = Collected (record { count = count; cause = cause }) rows
 
 -- A row of a response: kind and class, member and own number, price, filled and left.
@@ -173,11 +170,11 @@ contra_row price filled = record { price = pos price; member = 0; own = 0; class
 
 -- The refusal of this number.
 abbrev pub refused : ℕ → CubeAnswer
-refused n = Refused (refusal n)
+refused n = Refused (by_number n)
 
 -- Refusal 31 with the fault of the book, or of the legs: its cause by its number, and the place.
 abbrev pub book_fault : ℕ → ℕ → CubeAnswer
-book_fault n place = Refused (MarketFault (Left (record { cause = cause_numbered n; place = place })))
+book_fault cause place = Refused (record { number = 31; fault = Some (Left (record { cause = cause; place = place })) })
 
 abbrev pub leg_fault : ℕ → ℕ → CubeAnswer
-leg_fault n place = Refused (MarketFault (Right (record { cause = cause_numbered n; place = place })))
+leg_fault cause place = Refused (record { number = 31; fault = Some (Right (record { cause = cause; place = place })) })
