@@ -100,12 +100,6 @@ abbrev pub claimed : {T : Type 0} → Call T → Option ℕ
 claimed (Collect c n) = Some c.auction
 claimed _ = None
 
--- The member whose response or change a call hands in.
-abbrev pub storing_member : {T : Type 0} → Call T → Option ℕ
-storing_member (Respond x) = Some x.member
-storing_member (Change x) = Some x.member
-storing_member _ = None
-
 -- A halt halts, a resume resumes, and no other call does either.
 abbrev pub halted_by : {T : Type 0} → Call T → Bool → Bool
 halted_by (Halt t) before = true

@@ -98,9 +98,6 @@ module _ {P T F Q : Type 0} (w : World P T F Q) (drawn : WithinLimits w.source) 
     pub not_ending : (n : ℕ) → is_open n m.before ≡ false → ends_at n m ≡ false
     not_ending n k = and_left (is_open n m.before) (not (is_open n m.after)) k
 
-    shut_then : (n : ℕ) → is_open n m.before ≡ false → is_open n m.stepped ≡ false
-    shut_then n k = (stepped_elsewhere n m.before m.stepped clock k).still_closed
-
     -- none of its number waits after the clock step
     none_stepped : (n : ℕ) → is_open n m.before ≡ false → numbered n m.before.waiting ≡ None → numbered n m.stepped.waiting ≡ None
     none_stepped n k z = (stepped_elsewhere n m.before m.stepped clock k).same_waiting ∙ z

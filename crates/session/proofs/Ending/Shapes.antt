@@ -32,7 +32,7 @@ use Rattle.room.specs.Ticks.{ticked, ticking_by, ticking}
 use Rattle.room.specs.World.{World}
 use Rattle.session.specs.declared.calls.Call.{Call}
 use Rattle.session.specs.declared.calls.Call.TheVariants.{Open, Respond, Change, Withdraw, Tick, Halt, Resume, Clock, Look, Collect}
-use Rattle.session.specs.History.{opened_number, told_terms, is_accepted, is_collected, tick_in, is_halt, halted_by, claimed, plain_below, stood_after, storing_after, changed_then, withdrawn_then}
+use Rattle.session.specs.History.{opened_number, told_terms, is_accepted, is_collected, tick_in, is_halt, halted_by, plain_below, stood_after, storing_after, changed_then, withdrawn_then}
 use Rattle.session.specs.Reasons.{stored_by}
 use Rattle.session.specs.Runs.{Answer, Opened, Stored, Accepted, Looked, Collected, Refused, Moment, answered, answering, clock_stepped, moment}
 use Rattle.session.proofs.Choices.{cond_through}
@@ -96,7 +96,6 @@ module _ {P T F Q : Type 0} (w : World P T F Q) where
     pub terms : StoredTerms
     pub was_open : m.stepped.current ≡ Some was
     pub answer_is : m.answer ≡ Stored terms
-    pub claims_none : claimed m.call ≡ None
     pub same : SameButResponses was now
     pub stood_is : told_of now.values ≡ stood_after m.call terms (was.arrivals + 1) (told_of was.values)
     pub sound : Sound was.values → Sound now.values
@@ -288,7 +287,6 @@ module _ {P T F Q : Type 0} (w : World P T F Q) where
         terms = terms_told a (stored_price a x.price) (stored_size a x.size);
         was_open = ok.0;
         answer_is = refl;
-        claims_none = refl;
         same = same_but a (with_response a x) refl refl refl refl refl (length-set a.used _ _);
         stood_is = map-append (response_told a.values.order.side) a.values.stood (as_stored a x ∷ []);
         sound = response_sound a x i ok.1;
@@ -333,7 +331,6 @@ module _ {P T F Q : Type 0} (w : World P T F Q) where
         terms = terms_told a (stored_price a x.price) (stored_size a x.size);
         was_open = ok.0;
         answer_is = refl;
-        claims_none = refl;
         same = same_but a (with_change a x) refl refl refl refl refl (length-set a.used _ _);
         stood_is = told_changed a.values.order.side x.member x.own (stored_size a x.size) (stored_price a x.price) (a.arrivals + 1) a.values.stood;
         sound = change_sound a x i ok.1;
@@ -370,7 +367,6 @@ module _ {P T F Q : Type 0} (w : World P T F Q) where
         terms = terms_told a f.1.price f.1.size;
         was_open = withdrawing_ok u.current x f e;
         answer_is = refl;
-        claims_none = refl;
         same = same_but a (with_withdrawal a x) refl refl refl refl refl refl;
         stood_is = told_withdrawn a.values.order.side x.member x.own a.values.stood;
         sound = λ h. stood_sound a.values _ h (each_without x.member x.own (response_ok a.values.order.size a.values.floor a.values.initiating) a.values.stood h.standing);
