@@ -147,7 +147,7 @@ levels_in_order ahead order floor initiating stood in_order under stop_at e =
     }
 
 -- the fill list keeps its laws where the range and the guarantee are in order
-pub fill_list_in_order : (ahead : Response → Response → Bool) (order : PairedOrder) (floor initiating : ℤ) (stood : List Response) → le_z floor initiating ≡ true → le_z order.guarantee.price initiating ≡ true
+fill_list_in_order : (ahead : Response → Response → Bool) (order : PairedOrder) (floor initiating : ℤ) (stood : List Response) → le_z floor initiating ≡ true → le_z order.guarantee.price initiating ≡ true
     → stop_ok order.guarantee.kind floor order.guarantee.price ≡ true → each (response_ok order.size floor initiating) stood ≡ true → FillLaws order.side order.size floor initiating (map (response_told order.side) stood) (fill_list ahead order initiating stood)
 fill_list_in_order ahead order floor initiating stood in_order under stop_at e =
     let t : ContraTerms = contra_terms order initiating (length stood) in
@@ -155,14 +155,14 @@ fill_list_in_order ahead order floor initiating stood in_order under stop_at e =
     fills_lawful order.side t order.size floor stood (order_levels ahead order initiating stood) h.holds h.ascending h.among (shuffled_flat ahead (contra_level order.guarantee.kind t) stood) h.stand h.low h.high
 
 -- and in it the contra takes what it may
-pub contra_in_order : (ahead : Response → Response → Bool) (order : PairedOrder) (floor initiating : ℤ) (stood : List Response) → le_z floor initiating ≡ true → le_z order.guarantee.price initiating ≡ true
+contra_in_order : (ahead : Response → Response → Bool) (order : PairedOrder) (floor initiating : ℤ) (stood : List Response) → le_z floor initiating ≡ true → le_z order.guarantee.price initiating ≡ true
     → stop_ok order.guarantee.kind floor order.guarantee.price ≡ true → each (response_ok order.size floor initiating) stood ≡ true → ContraLaws order.side order.guarantee initiating (guaranteed order.size (length stood)) (fill_list ahead order initiating stood)
 contra_in_order ahead order floor initiating stood in_order under stop_at e =
     let h = levels_in_order ahead order floor initiating stood in_order under stop_at e in
     fills_contra_lawful order.side (contra_terms order initiating (length stood)) order.size floor (order_levels ahead order initiating stood) h.holds h.ascending h.among h.stand h.low h.high
 
 -- and no other shares keep both
-pub only_in_order : (ahead : Response → Response → Bool) (order : PairedOrder) (floor initiating : ℤ) (stood : List Response) → le_z floor initiating ≡ true → le_z order.guarantee.price initiating ≡ true
+only_in_order : (ahead : Response → Response → Bool) (order : PairedOrder) (floor initiating : ℤ) (stood : List Response) → le_z floor initiating ≡ true → le_z order.guarantee.price initiating ≡ true
     → stop_ok order.guarantee.kind floor order.guarantee.price ≡ true → each (response_ok order.size floor initiating) stood ≡ true
     → OnlyTheseShares order.side order.size floor order.guarantee initiating (guaranteed order.size (length stood)) (map (response_told order.side) stood) (fill_list ahead order initiating stood)
 only_in_order ahead order floor initiating stood in_order under stop_at e rows laws contra =
