@@ -9,6 +9,7 @@ mod counting;
 mod made;
 mod openings;
 mod runs;
+mod turns;
 mod used;
 
 use std::io;
@@ -18,5 +19,6 @@ fn main(rt: HostRuntime) -> io::Result<()> {
     used::work(&rt)?;
     claims::work(&rt)?;
     runs::work(&rt)?;
-    apart::work(&rt)
+    apart::work(&rt)?;
+    turns::work(&rt)
 }
