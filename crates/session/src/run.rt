@@ -24,7 +24,7 @@ struct Memory<F> {
 }
 
 // A list of rows for each collecting, a place in the purse for each call, and a place for each answer. The places for the answers
-// come last: an answer may hold a fault that may not be let go, and so may no list of answers, not even an empty one.
+// come last: an answer may hold a fault that may not be let go, and then no list of answers may be let go, not even an empty one.
 // `calls` is a `&Vec`: a slice of one field of `handed`, lent beside a `&mut` of another, was tried and gets no proof.
 fn take_memory<T, F>(
     heap: Global,
