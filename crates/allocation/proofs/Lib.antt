@@ -25,8 +25,8 @@ mod WalkSteps
 mod WalkFacts
 pub mod FillProved
 mod Places
-mod OwnResponses
-mod AuctionKept
-mod OwnsKept
+pub mod OwnResponses
+pub mod AuctionKept
+pub mod OwnsKept
 mod FewResponses
 pub mod ByOwnNumber

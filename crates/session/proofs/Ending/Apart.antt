@@ -1,7 +1,10 @@
 -- The responses that stand in an auction differ by member and own number, and by arrival; storing, changing and withdrawing
 -- one keeps that.
-use Rattle.std.proofs.Common.{◌≡◌, ℕ, ◌+◌, Bool, true, false, cond, not, ◌&&◌, eqb, leb, List, [], ◌∷◌, ◌++◌, ℤ, is_some, Some, Option, refl, arith}
+use Rattle.std.proofs.Common.{◌≡◌, ℕ, ◌+◌, Bool, true, false, cond, not, ◌&&◌, eqb, leb, List, [], ◌∷◌, ◌++◌, ℤ, is_some, sym, refl, ap, ◌∙◌, arith}
 use Rattle.std.proofs.lemmas.Bool.Decides.{nat_tests}
+use Rattle.allocation.proofs.AuctionKept.{apart_push}
+use Rattle.allocation.proofs.OwnResponses.{free_stands}
+use Rattle.allocation.proofs.OwnsKept.{owns_push}
 use Rattle.allocation.specs.declared.response.Response.{Response}
 use Rattle.allocation.specs.AuctionInvariant.{arrival_free, arrivals_apart, own_free, owns_apart}
 use Rattle.allocation.specs.Table.{is_of, restored, own_response, own_changed, without_own}
@@ -13,39 +16,13 @@ use Rattle.room.specs.Responses.{as_stored, stored_price, stored_size, with_resp
 use Rattle.room.specs.State.{OpenAuction}
 use Rattle.room.proofs.Counting.{next_is_free, arrived_next}
 use Rattle.room.proofs.Sound.{each_push, each_rewritten, each_without}
-use Rattle.room.proofs.Tests.{true_false, both_true, left_true, right_true}
+use Rattle.room.proofs.Tests.{both_true, left_true, right_true}
 
 pub record Apart (a : OpenAuction) : Type 0 where
   -- arrivals were given before
   pub arrived : all_arrived a.arrivals a.values.stood ≡ true
   pub arrivals : arrivals_apart a.values.stood ≡ true
   pub owns : owns_apart a.values.stood ≡ true
-
--- one more behind the others
-arrivals_push : (xs : List Response) (x : Response) → arrival_free x.arrival xs ≡ true → arrivals_apart xs ≡ true → arrivals_apart (xs ++ x ∷ []) ≡ true
-arrivals_push [] x free h = refl
-arrivals_push (y ∷ ys) x free h =
-    let other : not (eqb y.arrival x.arrival) ≡ true = let apart = left_true (not (eqb x.arrival y.arrival)) (arrival_free x.arrival ys) free in grind (arith, nat_tests) in
-    both_true (arrival_free y.arrival (ys ++ x ∷ [])) (arrivals_apart (ys ++ x ∷ []))
-    (each_push (λ (z : Response). not (eqb y.arrival z.arrival)) ys x (left_true (arrival_free y.arrival ys) (arrivals_apart ys) h) other)
-    (arrivals_push ys x (right_true (not (eqb x.arrival y.arrival)) (arrival_free x.arrival ys) free) (right_true (arrival_free y.arrival ys) (arrivals_apart ys) h))
-
-owns_push : (xs : List Response) (x : Response) → own_free x.member x.own xs ≡ true → owns_apart xs ≡ true → owns_apart (xs ++ x ∷ []) ≡ true
-owns_push [] x free h = refl
-owns_push (y ∷ ys) x free h =
-    let other : not (is_of y.member y.own x) ≡ true = let apart = left_true (not (is_of x.member x.own y)) (own_free x.member x.own ys) free in grind (arith, nat_tests) in
-    both_true (own_free y.member y.own (ys ++ x ∷ [])) (owns_apart (ys ++ x ∷ []))
-    (each_push (λ (z : Response). not (is_of y.member y.own z)) ys x (left_true (own_free y.member y.own ys) (owns_apart ys) h) other)
-    (owns_push ys x (right_true (not (is_of x.member x.own y)) (own_free x.member x.own ys) free) (right_true (own_free y.member y.own ys) (owns_apart ys) h))
-
--- an own number that is not in use is free
-free_at : (b : Bool) (x : Response) (o : Option Response) (rest : Bool) → is_some (cond b (Some x) o) ≡ false → (is_some o ≡ false → rest ≡ true) → (not b && rest) ≡ true
-free_at true x o rest h again = true_false h
-free_at false x o rest h again = again h
-
-not_in_use : (member own : ℕ) (xs : List Response) → is_some (own_response member own xs) ≡ false → own_free member own xs ≡ true
-not_in_use member own [] h = refl
-not_in_use member own (x ∷ xs) h = free_at (is_of member own x) x (own_response member own xs) (own_free member own xs) h (not_in_use member own xs)
 
 -- one with another size, price and arrival
 module _ (m o size : ℕ) (z : ℤ) (n : ℕ) where
@@ -111,8 +88,8 @@ apart_response a x h k =
     let xs = a.values.stood in
     record {
       arrived = each_push (λ (y : Response). leb y.arrival (a.arrivals + 1)) xs (as_stored a x) (arrived_next a.arrivals xs k.arrived) (itself (a.arrivals + 1));
-      arrivals = arrivals_push xs (as_stored a x) (next_is_free a.arrivals xs k.arrived) k.arrivals;
-      owns = owns_push xs (as_stored a x) (not_in_use x.member x.own xs h) k.owns;
+      arrivals = apart_push xs (as_stored a x) k.arrivals (next_is_free a.arrivals xs k.arrived);
+      owns = owns_push xs (as_stored a x) k.owns (sym (free_stands x.member x.own xs) ∙ ap not h);
     }
 
 pub apart_change : (a : OpenAuction) (x : ChangeRequest) → Apart a → Apart (with_change a x)
