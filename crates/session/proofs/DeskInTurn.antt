@@ -1,18 +1,19 @@
--- Calls that are made one after another at a desk from its making keep the whole promise, and so does its closing.
-use Rattle.std.proofs.Common.{◌≡◌, List, [], ◌∷◌, map, Option, sym, refl, ap, ◌∙◌, subst}
+-- Calls that are made one after another at a desk keep the whole promise, and so does its closing.
+use Rattle.std.proofs.Common.{◌≡◌, List, [], ◌∷◌, ◌++◌, map, Option, sym, refl, ap, ◌∙◌, subst}
 use Rattle.room.specs.declared.room.Room.{Room}
 use Rattle.room.specs.Rooms.{state_of}
-use Rattle.room.specs.State.{RoomState, new_room}
+use Rattle.room.specs.State.{RoomState}
 use Rattle.room.specs.World.{World, Terms}
 use Rattle.session.specs.declared.calls.Call.{Call}
 use Rattle.session.specs.declared.desk.Desk.{Desk}
 use Rattle.session.specs.Closings.{ClosedByCalls}
-use Rattle.session.specs.DeskInTurn.{DeskCall, last_desk, room_at, world_at, DeskInTurn, desk_carried, DeskCallsKeepThePromise}
+use Rattle.session.specs.DeskInTurn.{DeskCall, last_desk, room_at, world_at, DeskInTurn, desk_carried, DeskCallsKeepThePromise, none_carried, DeskPromise}
 use Rattle.session.specs.Desks.{at_desk, desk_after, desk_answer}
+use Rattle.session.specs.Promises.{Carried, at_first}
 use Rattle.session.specs.Runs.{Answer}
 use Rattle.session.specs.Sessions.{Session, session_answer, session_answers, session_end}
 use Rattle.session.specs.Told.{told}
-use Rattle.session.proofs.Promised.{promised, closed_promised, desk_kept}
+use Rattle.session.proofs.Promised.{Modelled, answers_behind, as_modelled, closed_promised, desk_at_end, desk_kept, end_behind, promised}
 
 module _ {M R S P T D F Q : Type 0} (world : R → World P T F Q) (position : M → P) (source : S → Q) (fault : D → F) where
   abbrev calls_of : List (DeskCall M R S T D) → List (Call T)
@@ -48,19 +49,37 @@ module _ {M R S P T D F Q : Type 0} (world : R → World P T F Q) (position : M 
         world_is = rest.world_is;
       }
 
-  pub desk_calls : ((ranking : R) → Terms (world ranking)) → DeskCallsKeepThePromise world position source fault
-  desk_calls terms number p q d cs made h =
-      let w = world_at world position source fault d in
-      let did = kept w (new_room number p q) d cs refl made h in
-      let carried = desk_carried world position source fault number p q d cs in
-      let promise = promised w (terms d.session.room.ranking) carried
+  -- behind calls that were carried out
+  behind : (w : World P T F Q) → Terms w → (past : Carried P T F Q) (d : Desk M R S) (cs : List (DeskCall M R S T D))
+      → world_at world position source fault d ≡ w → past.start.purse ≡ [] → Modelled w past → room_at world position source fault d ≡ past.room → DeskInTurn world position source fault d cs
+      → DeskPromise world position source fault w past d cs
+  behind w terms past d cs k none had e h =
+      let did = kept w past.room d cs k e h in
+      let first = at_first past.start in
+      let end = desk_at_end w past none had in
+      let carried = desk_carried world position source fault past d cs in
+      let last : session_end w first carried.calls ≡ at_desk carried.room = end_behind w first past.calls (calls_of cs) ∙ ap (λ t. session_end w t (calls_of cs)) end ∙ sym did.end in
+      let promise = promised w terms carried
       (record {
-        answers = did.answers;
-        room = ap (λ (s : Session P Q). s.room) did.end;
-        claims = (last_desk d cs).all_held ∙ ap (λ (s : Session P Q). s.purse) did.end;
+        answers =
+            ap (λ l. l ++ answers_of cs) had.answers
+            ∙ ap (λ l. session_answers w first past.calls ++ l) (did.answers ∙ ap (λ t. session_answers w t (calls_of cs)) (sym end))
+            ∙ sym (answers_behind w first past.calls (calls_of cs));
+        room = sym (ap (λ (s : Session P Q). s.room) last);
+        claims = (last_desk d cs).all_held ∙ sym (ap (λ (s : Session P Q). s.purse) last);
       }) in
       record {
         promise = promise;
-        when_closed = λ ts room closed.
-            closed_promised w (terms d.session.room.ranking) carried ts room refl promise (subst (λ v. ClosedByCalls v carried.room ts room) did.world_is closed);
+        when_closed = λ ts room closed. closed_promised w terms carried ts room none promise (subst (λ v. ClosedByCalls v carried.room ts room) did.world_is closed);
+      }
+
+  pub desk_calls : ((ranking : R) → Terms (world ranking)) → DeskCallsKeepThePromise world position source fault
+  desk_calls terms =
+      record {
+        of_a_new_desk = λ number p q d cs made h.
+            let w = world_at world position source fault d in
+            behind w (terms d.session.room.ranking) (none_carried number p q) d cs refl refl (record { answers = refl; room = refl; claims = refl }) made h;
+        behind_a_day = λ past d cs none promise e h.
+            let w = world_at world position source fault d in
+            behind w (terms d.session.room.ranking) past d cs refl none (as_modelled w past promise) e h;
       }

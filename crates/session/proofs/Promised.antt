@@ -118,12 +118,16 @@ module _ {P T F Q : Type 0} (w : World P T F Q) where
   closed_by_calls s ts room told state =
       subst (λ l. ClosedByCalls w s l room) (sym told) (subst (λ r. ClosedByCalls w s (told_at_close w s) r) (sym state) (desk_closed s))
 
+  -- behind calls that begin with no claim the session is a desk's
+  pub desk_at_end : (c : Carried P T F Q) → c.start.purse ≡ [] → Modelled w c → session_end w (at_first c.start) c.calls ≡ at_desk c.room
+  desk_at_end c none h = is_desk (session_end w (at_first c.start) c.calls) (match_at_end w (at_first c.start) c.calls none) ∙ ap at_desk (sym h.room)
+
   -- so what holds of calls holds of them with those of the close
   pub closed_modelled : (c : Carried P T F Q) (ts : List ToldAtClose) (room : RoomState P Q) → c.start.purse ≡ [] → Modelled w c → ClosedByCalls w c.room ts room → Modelled w (with_close c ts room)
   closed_modelled c ts room none h did =
       let first = at_first c.start in
       let closing : List (Call T) = closing_calls ts in
-      let end : session_end w first c.calls ≡ at_desk c.room = is_desk (session_end w first c.calls) (match_at_end w first c.calls none) ∙ ap at_desk (sym h.room) in
+      let end = desk_at_end c none h in
       let last : session_end w first (c.calls ++ closing) ≡ session_of room [] = end_behind first c.calls closing ∙ ap (λ t. session_end w t closing) end ∙ did.end in
       record {
         answers =
@@ -134,7 +138,10 @@ module _ {P T F Q : Type 0} (w : World P T F Q) where
         claims = sym (ap (λ (s : Session P Q). s.purse) last);
       }
 
+  pub as_modelled : (c : Carried P T F Q) → WholePromise w c → Modelled w c
+  as_modelled c h = record { answers = h.answers; room = h.room; claims = h.claims }
+
   pub closed_promised : Terms w → (c : Carried P T F Q) (ts : List ToldAtClose) (room : RoomState P Q) → c.start.purse ≡ [] → WholePromise w c → ClosedByCalls w c.room ts room
       → WholePromise w (with_close c ts room)
   closed_promised terms c ts room none h did =
-      promised w terms (with_close c ts room) (closed_modelled c ts room none (record { answers = h.answers; room = h.room; claims = h.claims }) did)
+      promised w terms (with_close c ts room) (closed_modelled c ts room none (as_modelled c h) did)

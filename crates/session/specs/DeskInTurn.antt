@@ -1,5 +1,5 @@
--- Calls at a desk, one after another from the desk's making on, each as the contract of `call` says, and its closing.
-use Rattle.std.specs.Prelude.{◌≡◌, ℕ, List, [], ◌∷◌, map}
+-- Calls at a desk, one after another, each as the contract of `call` says, and the desk's closing.
+use Rattle.std.specs.Prelude.{◌≡◌, ℕ, List, [], ◌∷◌, ◌++◌, map}
 use Rattle.room.specs.Rooms.{state_of}
 use Rattle.room.specs.State.{RoomState, new_room}
 use Rattle.room.specs.World.{World}
@@ -18,6 +18,11 @@ pub record DeskCall (M R S T F : Type 0) : Type 0 where
   pub call : Call T
   pub answer : Answer F
   pub after : Desk M R S
+
+-- No call was carried out yet: a room at its making, and no claim.
+abbrev pub none_carried : {P T F Q : Type 0} → ℕ → P → Q → Carried P T F Q
+none_carried number p q =
+    record { start = record { number = number; market = p; source = q; purse = [] }; calls = []; answers = []; room = new_room number p q; claims = [] }
 
 -- The desk behind the last of some calls.
 abbrev pub last_desk : {M R S T F : Type 0} → Desk M R S → List (DeskCall M R S T F) → Desk M R S
@@ -42,24 +47,26 @@ module _ {M R S P T D F Q : Type 0} (world : R → World P T F Q) (position : M 
   DeskInTurn d [] = Unit {0}
   DeskInTurn d (c ∷ cs) = (c.before.session.room ≡ d.session.room) × DeskByContract c × DeskInTurn c.after cs
 
-  -- The calls with their answers, and the room and the claims that the desk then has. A new desk has no claim.
-  abbrev pub desk_carried : ℕ → P → Q → Desk M R S → List (DeskCall M R S T D) → Carried P T F Q
-  desk_carried number p q d cs = record {
-    start = record { number = number; market = p; source = q; purse = [] };
-    calls = map (λ (c : DeskCall M R S T D). c.call) cs;
-    answers = map (λ (c : DeskCall M R S T D). told fault c.answer) cs;
+  -- Calls that were carried out, and behind them these, with their answers; and the room and the claims that the desk then has.
+  abbrev pub desk_carried : Carried P T F Q → Desk M R S → List (DeskCall M R S T D) → Carried P T F Q
+  desk_carried past d cs = record {
+    start = past.start;
+    calls = past.calls ++ map (λ (c : DeskCall M R S T D). c.call) cs;
+    answers = past.answers ++ map (λ (c : DeskCall M R S T D). told fault c.answer) cs;
     room = room_at (last_desk d cs);
     claims = (last_desk d cs).session.purse.numbers;
   }
 
   -- The whole promise holds of the calls; and on, where the desk is then closed as the contract of `close` says.
-  pub record DeskPromise (w : World P T F Q) (number : ℕ) (p : P) (q : Q) (d : Desk M R S) (cs : List (DeskCall M R S T D)) : Type 0 where
-    pub promise : WholePromise w (desk_carried number p q d cs)
+  pub record DeskPromise (w : World P T F Q) (past : Carried P T F Q) (d : Desk M R S) (cs : List (DeskCall M R S T D)) : Type 0 where
+    pub promise : WholePromise w (desk_carried past d cs)
     pub when_closed : (ts : List ToldAtClose) (room : RoomState P Q) → ClosedByCalls (world_at (last_desk d cs)) (room_at (last_desk d cs)) ts room
-        → WholePromise w (with_close (desk_carried number p q d cs) ts room)
+        → WholePromise w (with_close (desk_carried past d cs) ts room)
 
-  -- All calls that are made one after another at a desk from its making.
-  abbrev pub DeskCallsKeepThePromise : Type 0
-  DeskCallsKeepThePromise =
-      (number : ℕ) (p : P) (q : Q) (d : Desk M R S) (cs : List (DeskCall M R S T D))
-      → room_at d ≡ new_room number p q → DeskInTurn d cs → DeskPromise (world_at d) number p q d cs
+  pub record DeskCallsKeepThePromise : Type 0 where
+    -- All calls that are made one after another at a desk from its making,
+    pub of_a_new_desk : (number : ℕ) (p : P) (q : Q) (d : Desk M R S) (cs : List (DeskCall M R S T D))
+        → room_at d ≡ new_room number p q → DeskInTurn d cs → DeskPromise (world_at d) (none_carried number p q) d cs
+    -- and all that are made at a desk behind calls of which the promise holds, as those of a day.
+    pub behind_a_day : (past : Carried P T F Q) (d : Desk M R S) (cs : List (DeskCall M R S T D))
+        → past.start.purse ≡ [] → WholePromise (world_at d) past → room_at d ≡ past.room → DeskInTurn d cs → DeskPromise (world_at d) past d cs

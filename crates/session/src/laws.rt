@@ -20,8 +20,8 @@ pub fn calls_in_turn_are_a_run<M: Market, S: IntervalSource, R: Ranking>()
     ensures { CallsInTurnAreARun (λ ranking. world_of M.Market.meaning S.IntervalSource.meaning (R.Ranking.ahead ranking)) M.Market.position S.IntervalSource.position M.Market.told }
 {}
 
-/// Whoever makes calls at a desk has the whole promise of a run: of the calls from the desk's making on, and of these and its
-/// closing.
+/// Whoever makes calls at a desk has the whole promise of a run: of the calls from the desk's making on, or behind those of a day,
+/// and of these and the desk's closing.
 pub fn desk_calls_keep_the_promise<M: Market, S: IntervalSource, R: Ranking>()
     ensures { DeskCallsKeepThePromise (λ ranking. world_of M.Market.meaning S.IntervalSource.meaning (R.Ranking.ahead ranking)) M.Market.position S.IntervalSource.position M.Market.told }
 {}
