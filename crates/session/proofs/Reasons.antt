@@ -8,6 +8,7 @@ use Rattle.std.proofs.lemmas.Bool.Decides.{nat_tests}
 use Rattle.std.proofs.Math.Bool.{or-true}
 use Rattle.std.specs.Int.{int_max, int_min}
 use Rattle.std.specs.Option.{option_map, option_or}
+use Rattle.std.specs.Str.{byte}
 use Rattle.market.specs.declared.range.TurnedQuote.{TurnedQuote}
 use Rattle.market.specs.declared.side.Side.{Side}
 use Rattle.market.specs.declared.side.Side.TheVariants.{Buy, Sell}
@@ -51,8 +52,6 @@ use Rattle.session.proofs.Ending.Held.{holds_new}
 use Rattle.session.proofs.Ending.Laws.{throughout}
 use Rattle.session.proofs.Inputs.{same_check, input_reason_is}
 use Rattle.session.proofs.Linked.{Matches, Current, none_open, one_open, Linked}
-use Rattle.std.specs.Str.{byte}
-use Rattle.std.specs.Result.{result_err}
 
 -- The first of two lists is the first of the first, or of the second.
 first_by : {X : Type 0} (b : Bool) (x : X) (o r : Option X) → cond b (Some x) (option_or o r) ≡ option_or (cond b (Some x) o) r
@@ -132,20 +131,16 @@ waits_stepped _ _ t u es n (one_open a s m) e k =
     ∙ ap (λ b. ltb 0 (length es) || not (is_some (cond b None (Some s)))) (ap (λ d. leb d t) m.deadline_is ∙ ap (leb (deadline_of s.opening)) e)
     ∙ ap (λ i. ltb 0 i || not (is_some (not_due u (Some s)))) k
 
--- What refuses a result, by number.
-abbrev number_of : {X : Type 0} → Result X ℕ → Option ℕ
-number_of = result_err
+-- What refuses a check, by number.
+abbrev number_in : {X : Type 0} → Result X ℕ → Option ℕ
+number_in (Ok x) = None
+number_in (Err n) = Some n
 
-number_ok : {X : Type 0} (o : Option ℕ) (x : X) → number_of (unless o (Ok x)) ≡ o
-number_ok None x = refl
-number_ok (Some n) x = refl
+number_unless : {X : Type 0} (o : Option ℕ) (x : X) → number_in (unless o (Ok x)) ≡ o
+number_unless None x = refl
+number_unless (Some n) x = refl
 
--- The range of an order, and its guarantee.
-number_ranged : (b : Bool) (r : RangePrices) (k : RangePrices → Result RangePrices ℕ) → number_of (and_then (cond b (Err 15) (Ok r)) k) ≡ cond b (Some 15) (number_of (k r))
-number_ranged true r k = refl
-number_ranged false r k = refl
-
--- What refuses an answer, by number.
+-- What refuses a call.
 module _ {F : Type 0} where
   abbrev told_number : {X : Type 0} → Result X (RefusalTold F) → Option ℕ
   told_number (Ok x) = None
@@ -165,15 +160,25 @@ module _ {F : Type 0} where
   in_kind_by c f (Ok x) h = h x
   in_kind_by c f (Err e) h = refl
 
-told_outcome : (F : Type 0) {S X Y : Type 0} (y : Result X ℕ) (s : S) (effect : X → S) (answer : X → Y) → told_number (outcome {F = F} y s effect answer).1 ≡ number_of y
+told_outcome : (F : Type 0) {S X Y : Type 0} (y : Result X ℕ) (s : S) (effect : X → S) (answer : X → Y) → told_number {F = F} (outcome y s effect answer).1 ≡ number_in y
 told_outcome F (Ok x) s effect answer = refl
 told_outcome F (Err n) s effect answer = refl
+
+-- No check holds a fault.
+no_fault : (F : Type 0) {S X Y : Type 0} (f : Y → Answer F) (y : Result X ℕ) (s : S) (effect : X → S) (answer : X → Y) → ((z : Y) → fault_told (f z) ≡ None) → fault_told (answered f (outcome y s effect answer).1) ≡ None
+no_fault F f (Ok x) s effect answer h = h (answer x)
+no_fault F f (Err n) s effect answer h = refl
+
+-- The range of an order, and its guarantee.
+number_range : (b : Bool) (r : RangePrices) (k : RangePrices → Result RangePrices ℕ) → number_in (and_then (cond b (Err 15) (Ok r)) k) ≡ cond b (Some 15) (number_in (k r))
+number_range true r k = refl
+number_range false r k = refl
 
 abbrev ranged : PairedOrder → ℕ → Result RangePrices ℕ → Result RangePrices ℕ
 ranged o opened y = and_then y (λ r. unless (guarantee_refusal o opened r) (Ok r))
 
 range_reasons : (o : PairedOrder) (opened : ℕ) (floor contra : Option ℤ)
-    → number_of (ranged o opened (range_faced o.side (turned o.side o.limit) floor contra))
+    → number_in (ranged o opened (range_faced o.side (turned o.side o.limit) floor contra))
     ≡ first_that_holds (price_reasons o (record { floor = floor; contra = contra }) ++ (leb 1000000 opened, 17) ∷ [])
 range_reasons o opened None contra = refl
 range_reasons o opened (Some floor) None = refl
@@ -181,11 +186,11 @@ range_reasons o opened (Some floor) (Some contra) =
     let limit = turned o.side o.limit in
     let guarantee = turned o.side o.guarantee.price in
     let r : RangePrices = record { side = o.side; floor = floor; contra = contra; initiating = int_min limit contra } in
-    number_ranged (lt_z (int_min limit contra) floor) r (λ r. unless (guarantee_refusal o opened r) (Ok r))
-    ∙ ap (λ b. cond b (Some 15) (number_of (unless (guarantee_refusal o opened r) (Ok r)))) (lower_is limit contra floor)
+    number_range (lt_z (int_min limit contra) floor) r (λ r. unless (guarantee_refusal o opened r) (Ok r))
+    ∙ ap (λ b. cond b (Some 15) (number_in (unless (guarantee_refusal o opened r) (Ok r)))) (lower_is limit contra floor)
     ∙ ap (cond (lt_z limit floor || lt_z contra floor) (Some 15))
-    (number_ok (guarantee_refusal o opened r) r
-    ∙ same_check _ _ 16 _ _ (lower_is limit contra guarantee) refl)
+    (number_unless (guarantee_refusal o opened r) r
+    ∙ same_check _ _ 16 _ _ (lower_is limit contra guarantee) (same_check (leb 1000000 opened) (leb 1000000 opened) 17 None None refl refl))
 
 -- The tests of a response, a change and a withdrawal on the open auction.
 module _ (a : OpenAuction) (s : Story) (m : Matches s a) where
@@ -212,25 +217,25 @@ module _ (a : OpenAuction) (s : Story) (m : Matches s a) where
       (same_check _ _ 27 None None (used_is x.member h) refl)))
 
   changed_if : (x : ChangeRequest) (o : Option Response) → from_to 1 16 x.member ≡ true
-      → number_of (and_then (standing_now o) (λ y. unless (change_refusal a y x) (Ok a)))
+      → number_in (and_then (standing_now o) (λ y. unless (change_refusal a y x) (Ok a)))
       ≡ first_that_holds (sealed_reasons (option_map (response_told a.values.order.side) o) ++ (above_initiating s x.price, 23) ∷ ((used_up s x.member, 27) ∷ []))
   changed_if x None h = refl
   changed_if x (Some y) h =
-      number_ok (change_refusal a y x) a
+      number_unless (change_refusal a y x) a
       ∙ same_check _ _ 26 _ _ (kind_is y.kind) (same_check _ _ 23 _ _ (above_is x.price) (same_check _ _ 27 None None (used_is x.member h) refl))
 
-  change_told : (x : ChangeRequest) → from_to 1 16 x.member ≡ true → number_of (changing_in (Some a) x) ≡ first_that_holds (change_reasons x s)
+  change_told : (x : ChangeRequest) → from_to 1 16 x.member ≡ true → number_in (changing_in (Some a) x) ≡ first_that_holds (change_reasons x s)
   change_told x h =
       changed_if x (own_response x.member x.own a.values.stood) h
       ∙ ap (λ r. first_that_holds (sealed_reasons r ++ (above_initiating s x.price, 23) ∷ ((used_up s x.member, 27) ∷ []))) (sym (stands_as x.member x.own))
 
   withdrawn_if : (o : Option Response)
-      → number_of {X = OpenAuction × Response} (and_then (standing_now o) (λ y. unless (plain_checked y None) (Ok (a, y))))
+      → number_in {X = OpenAuction × Response} (and_then (standing_now o) (λ y. unless (plain_checked y None) (Ok (a, y))))
       ≡ first_that_holds (sealed_reasons (option_map (response_told a.values.order.side) o))
   withdrawn_if None = refl
-  withdrawn_if (Some y) = number_ok (plain_checked y None) (a, y) ∙ same_check _ _ 26 None None (kind_is y.kind) refl
+  withdrawn_if (Some y) = number_unless (plain_checked y None) (a, y) ∙ same_check _ _ 26 None None (kind_is y.kind) refl
 
-  withdraw_told : (x : WithdrawRequest) → number_of (withdrawing_from (Some a) x) ≡ first_that_holds (withdraw_reasons x s)
+  withdraw_told : (x : WithdrawRequest) → number_in (withdrawing_from (Some a) x) ≡ first_that_holds (withdraw_reasons x s)
   withdraw_told x = withdrawn_if (own_response x.member x.own a.values.stood) ∙ ap (λ r. first_that_holds (sealed_reasons r)) (sym (stands_as x.member x.own))
 
   -- The terms.
@@ -247,10 +252,10 @@ module _ (a : OpenAuction) (s : Story) (m : Matches s a) where
       ap (option_map (λ (r : Told). record { price = r.price; size = r.size })) (stands_as x.member x.own ∙ ap (option_map (response_told a.values.order.side)) h)
 
 -- What an accepted response, change or withdrawal is told is due, if what each result that is accepted is told is.
-stored_due : {F S X : Type 0} (y : Result X ℕ) (s : S) (effect : X → S) (answer : X → StoredTerms) (t : StoredTerms) (due : Option StoredTerms)
+stored_due : (F : Type 0) {S X : Type 0} (y : Result X ℕ) (s : S) (effect : X → S) (answer : X → StoredTerms) (t : StoredTerms) (due : Option StoredTerms)
     → answered {F = F} Stored (outcome y s effect answer).1 ≡ Stored t → ((x : X) → y ≡ Ok x → due ≡ Some (answer x)) → due ≡ Some t
-stored_due (Ok x) s effect answer t due h g = g x refl ∙ (let e : answer x ≡ t = cc in ap Some e)
-stored_due (Err e) s effect answer t due h g = absurd cc
+stored_due F (Ok x) s effect answer t due h g = g x refl ∙ (let e : answer x ≡ t = cc in ap Some e)
+stored_due F (Err e) s effect answer t due h g = absurd cc
 
 responded_to : (a b : OpenAuction) (x : ResponseRequest) → responding_to (Some a) x ≡ Ok b → a ≡ b
 responded_to a b x h = let e = (unless_ok (response_refusal a x) (Ok a) b h).1 in cc
@@ -272,15 +277,15 @@ withdrawn_from a f x h =
     (found.0, standing_ok (own_response x.member x.own a.values.stood) found.0 found.1, cc)
 
 -- By the open auction, if there is one.
-responding_told : (o : Option OpenAuction) (r : Option Story) (x : ResponseRequest) → Current o r → from_to 1 16 x.member ≡ true → number_of (responding_to o x) ≡ first_that_holds (by_open r (respond_reasons x))
+responding_told : (o : Option OpenAuction) (r : Option Story) (x : ResponseRequest) → Current o r → from_to 1 16 x.member ≡ true → number_in (responding_to o x) ≡ first_that_holds (by_open r (respond_reasons x))
 responding_told _ _ x none_open h = refl
-responding_told _ _ x (one_open a s m) h = number_ok (response_refusal a x) a ∙ respond_told a s m x h
+responding_told _ _ x (one_open a s m) h = number_unless (response_refusal a x) a ∙ respond_told a s m x h
 
-changing_told : (o : Option OpenAuction) (r : Option Story) (x : ChangeRequest) → Current o r → from_to 1 16 x.member ≡ true → number_of (changing_in o x) ≡ first_that_holds (by_open r (change_reasons x))
+changing_told : (o : Option OpenAuction) (r : Option Story) (x : ChangeRequest) → Current o r → from_to 1 16 x.member ≡ true → number_in (changing_in o x) ≡ first_that_holds (by_open r (change_reasons x))
 changing_told _ _ x none_open h = refl
 changing_told _ _ x (one_open a s m) h = change_told a s m x h
 
-withdrawing_told : (o : Option OpenAuction) (r : Option Story) (x : WithdrawRequest) → Current o r → number_of (withdrawing_from o x) ≡ first_that_holds (by_open r (withdraw_reasons x))
+withdrawing_told : (o : Option OpenAuction) (r : Option Story) (x : WithdrawRequest) → Current o r → number_in (withdrawing_from o x) ≡ first_that_holds (by_open r (withdraw_reasons x))
 withdrawing_told _ _ x none_open = refl
 withdrawing_told _ _ x (one_open a s m) = withdraw_told a s m x
 
@@ -304,7 +309,7 @@ withdrawing_terms T _ _ x f (one_open a s m) h =
     withdrawn_terms a s m x y.0 y.1 ∙ ap (λ (z : OpenAuction × Response). Some (terms_told z.0 z.1.price z.1.size)) y.2
 
 -- Whether a collecting is refused, by the tests one after another.
-collect_told : (a b c : Bool) (o : Option EndedAuction) → number_of (unless (refuse a 6 None) (unless (refuse b 42 (refuse c 41 None)) (waiting_now o)))
+collect_told : (a b c : Bool) (o : Option EndedAuction) → number_in (unless (refuse a 6 None) (unless (refuse b 42 (refuse c 41 None)) (waiting_now o)))
     ≡ first_that_holds ((a, 6) ∷ ((b, 42) ∷ ((c, 41) ∷ ((not (is_some o), 42) ∷ []))))
 collect_told true b c o = refl
 collect_told false true c o = refl
@@ -312,7 +317,7 @@ collect_told false false true o = refl
 collect_told false false false None = refl
 collect_told false false false (Some e) = refl
 
-told_room : {X : Type 0} (a b : Bool) (y : Result X ℕ) → number_of (unless (refuse a 12 (refuse b 13 None)) y) ≡ cond a (Some 12) (cond b (Some 13) (number_of y))
+told_room : {X : Type 0} (a b : Bool) (y : Result X ℕ) → number_in (unless (refuse a 12 (refuse b 13 None)) y) ≡ cond a (Some 12) (cond b (Some 13) (number_in y))
 told_room true b y = refl
 told_room false true y = refl
 told_room false false y = refl
@@ -367,12 +372,12 @@ module _ {P T F Q : Type 0} (w : World P T F Q) (number : ℕ) (p : P) (q : Q) (
       → (k ≡ None → told_number (business (clocked s t)).1 ≡ first_that_holds (state_reasons w number p q past c))
       → refused_number (answered f (timed k s t business).1) ≡ first_that_holds (reasons w number p q past c)
   timed_told s c f None t business h g then = told_answer f (business (clocked s t)).1 g ∙ then refl ∙ sym (passed c h)
-  timed_told s c f (Some n) t business h g then = refused c n h
+  timed_told s c f (Some e) t business h g then = refused c e h
 
   timed_ok : {Y : Type 0} (s : RoomState P Q) (f : Y → Answer F) (k : Option ℕ) (t : ℕ) (business : RoomState P Q → RoomState P Q × Result Y (RefusalTold F)) (v : Answer F)
       → answered f (timed k s t business).1 ≡ v → ((e : RefusalTold F) → Refused e ≡ v → ⊥) → (k ≡ None) × (answered f (business (clocked s t)).1 ≡ v)
   timed_ok s f None t business v h g = (refl, h)
-  timed_ok s f (Some n) t business v h g = absurd (g (by_number n) h)
+  timed_ok s f (Some e) t business v h g = absurd (g (by_number e) h)
 
   opening_told : (u : RoomState P Q) (x : OpeningRequest) → Finds (Open x) u → open_checks x ≡ None
       → told_number (opening w u x.order).1 ≡ first_that_holds (state_reasons w number p q past (Open x))
@@ -382,12 +387,12 @@ module _ {P T F Q : Type 0} (w : World P T F Q) (number : ℕ) (p : P) (q : Q) (
       let range : P → ℕ → Result RangePrices ℕ = λ (z : P) (n : ℕ). ranged o n (permitted o.side o.limit (w.market.shows z)) in
       told_outcome F (opening_range w u o) u (opened_with w u o) (λ _. record { room = u.number; auction = u.opened + 1 })
       ∙ told_room u.halted (any_waits u.waiting) (range u.position u.opened)
-      ∙ ap (λ (a : Bool). cond a (Some 12) (cond (any_waits u.waiting) (Some 13) (number_of (range u.position u.opened)))) h.halted_is
-      ∙ ap (λ (b : Bool). cond (halted_then past) (Some 12) (cond b (Some 13) (number_of (range u.position u.opened)))) h.waits
+      ∙ ap (λ (a : Bool). cond a (Some 12) (cond (any_waits u.waiting) (Some 13) (number_in (range u.position u.opened)))) h.halted_is
+      ∙ ap (λ (b : Bool). cond (halted_then past) (Some 12) (cond b (Some 13) (number_in (range u.position u.opened)))) h.waits
       ∙ ap (λ (n : Option ℕ). cond (halted_then past) (Some 12) (cond (one_waits w p q past (Open x)) (Some 13) n))
-      (ap (λ (z : P). number_of (range z u.opened)) h.position_is
-      ∙ ap (λ (n : ℕ). number_of (range (market_at w p q past) n)) h.opened_is
-      ∙ ap (λ (b : Bool). number_of (ranged o (openings past) (cond b (range_faced o.side (turned o.side o.limit) now.floor now.contra) (Err 2)))) (limit_ok x k)
+      (ap (λ (z : P). number_in (range z u.opened)) h.position_is
+      ∙ ap (λ (n : ℕ). number_in (range (market_at w p q past) n)) h.opened_is
+      ∙ ap (λ (b : Bool). number_in (ranged o (openings past) (cond b (range_faced o.side (turned o.side o.limit) now.floor now.contra) (Err 2)))) (limit_ok x k)
       ∙ range_reasons o (openings past) now.floor now.contra)
 
   ticking_told : (u : RoomState P Q) (y : Result (Unit {0}) F) (x : T) → told_number (ticking_by w y u x).1 ≡ first_that_holds ((is_some (fault_in y), 31) ∷ [])
@@ -478,17 +483,17 @@ module _ {P T F Q : Type 0} (w : World P T F Q) (number : ℕ) (p : P) (q : Q) (
     terms_are (Respond x) t e =
         let u = clocked s x.time in
         let ok = timed_ok s Stored (respond_checks x) x.time (λ u. responding u x) (Stored t) e (λ f z. cc) in
-        stored_due (responding_to u.current x) u (λ a. responded u a x) (λ a. terms_told a (stored_price a x.price) (stored_size a x.size)) t _ ok.1
+        stored_due F (responding_to u.current x) u (λ a. responded u a x) (λ a. terms_told a (stored_price a x.price) (stored_size a x.size)) t _ ok.1
         (λ b. responding_terms T u.current (found_open w p q past (Respond x)) x b (finds s (Respond x) x.time h ok.0 refl).current)
     terms_are (Change x) t e =
         let u = clocked s x.time in
         let ok = timed_ok s Stored (change_checks x) x.time (λ u. changing u x) (Stored t) e (λ f z. cc) in
-        stored_due (changing_in u.current x) u (λ a. with_current (with_change a x) u) (λ a. terms_told a (stored_price a x.price) (stored_size a x.size)) t _ ok.1
+        stored_due F (changing_in u.current x) u (λ a. with_current (with_change a x) u) (λ a. terms_told a (stored_price a x.price) (stored_size a x.size)) t _ ok.1
         (λ b. changing_terms T u.current (found_open w p q past (Change x)) x b (finds s (Change x) x.time h ok.0 refl).current)
     terms_are (Withdraw x) t e =
         let u = clocked s x.time in
         let ok = timed_ok s Stored (withdraw_checks x) x.time (λ u. withdrawing u x) (Stored t) e (λ f z. cc) in
-        stored_due (withdrawing_from u.current x) u (λ f. with_current (with_withdrawal f.0 x) u) (λ f. terms_told f.0 f.1.price f.1.size) t _ ok.1
+        stored_due F (withdrawing_from u.current x) u (λ f. with_current (with_withdrawal f.0 x) u) (λ f. terms_told f.0 f.1.price f.1.size) t _ ok.1
         (λ b. withdrawing_terms T u.current (found_open w p q past (Withdraw x)) x b (finds s (Withdraw x) x.time h ok.0 refl).current)
     terms_are (Open x) t e = not_stored Opened (open_call w s x).1 t (λ _. refl) e
     terms_are (Tick n x) t e = not_stored (λ _. Accepted) (tick_call w s n x).1 t (λ _. refl) e
@@ -499,28 +504,40 @@ module _ {P T F Q : Type 0} (w : World P T F Q) (number : ℕ) (p : P) (q : Q) (
     terms_are (Collect c n) t e = not_stored (λ z. Collected z (collect_rows w s c n)) (collect_call w s c n).1 t (λ _. refl) e
 
     -- The market's fault.
-    ticking_fault : (u : RoomState P Q) (y : Result (Unit {0}) F) (x : T) (f : F) → fault_in y ≡ Some f → fault_told (answered {F = F} (λ _. Accepted) (ticking_by w y u x).1) ≡ Some f
-    ticking_fault u (Ok k) x f e = none_some f e
-    ticking_fault u (Err g) x f e = e
+    timed_fault : {Y : Type 0} (c : Call T) (f : Y → Answer F) (k : Option ℕ) (t : ℕ) (business : RoomState P Q → RoomState P Q × Result Y (RefusalTold F))
+        → input_refusal c ≡ k → (k ≡ None → fault_told (answered f (business (clocked s t)).1) ≡ market_fault w p q past c)
+        → fault_told (answered f (timed k s t business).1) ≡ cond (is_some (input_reason c)) None (market_fault w p q past c)
+    timed_fault c f None t business e then = then refl ∙ ap (λ o. cond (is_some o) None (market_fault w p q past c)) (sym e ∙ input_reason_is c)
+    timed_fault c f (Some n) t business e then = ap (λ o. cond (is_some o) None (market_fault w p q past c)) (sym e ∙ input_reason_is c)
 
-    timed_fault : (k : Option ℕ) (t : ℕ) (x : T) (f : F) → k ≡ None → fault_in (w.market.answer (clocked s t).position x) ≡ Some f
-        → fault_told (answered {F = F} (λ _. Accepted) (timed k s t (λ u. ticking w u x)).1) ≡ Some f
-    timed_fault None t x f k e = ticking_fault (clocked s t) (w.market.answer (clocked s t).position x) x f e
-    timed_fault (Some r) t x f k e = none_some r (sym k)
+    ticking_fault : (u : RoomState P Q) (y : Result (Unit {0}) F) (x : T) → fault_told (answered {F = F} (λ _. Accepted) (ticking_by w y u x).1) ≡ fault_in y
+    ticking_fault u (Ok k) x = refl
+    ticking_fault u (Err f) x = refl
 
-    fault_is : (c : Call T) (f : F) → input_reason c ≡ None → market_fault w p q past c ≡ Some f → fault_told (step w s c).1 ≡ Some f
-    fault_is (Tick t x) f k e =
-        let none : time_checks t ≡ None = input_reason_is {T = T} (Tick t x) ∙ k in
-        timed_fault (time_checks t) t x f none (ap (λ (z : P). fault_in (w.market.answer z x)) (finds s (Tick t x) t h none refl).position_is ∙ e)
-    fault_is (Open x) f k e = none_some f e
-    fault_is (Respond x) f k e = none_some f e
-    fault_is (Change x) f k e = none_some f e
-    fault_is (Withdraw x) f k e = none_some f e
-    fault_is (Halt t) f k e = none_some f e
-    fault_is (Resume t) f k e = none_some f e
-    fault_is (Clock t) f k e = none_some f e
-    fault_is Look f k e = none_some f e
-    fault_is (Collect c n) f k e = none_some f e
+    fault_is : (c : Call T) → fault_told (step w s c).1 ≡ cond (is_some (input_reason c)) None (market_fault w p q past c)
+    fault_is (Open x) =
+        timed_fault (Open x) Opened (open_checks x) x.time (λ u. opening w u x.order) refl
+        (λ k. let u = clocked s x.time in no_fault F Opened (opening_range w u x.order) u (opened_with w u x.order) (λ _. record { room = u.number; auction = u.opened + 1 }) (λ _. refl))
+    fault_is (Respond x) =
+        timed_fault (Respond x) Stored (respond_checks x) x.time (λ u. responding u x) refl
+        (λ k. let u = clocked s x.time in no_fault F Stored (responding_to u.current x) u (λ a. responded u a x) (λ a. terms_told a (stored_price a x.price) (stored_size a x.size)) (λ _. refl))
+    fault_is (Change x) =
+        timed_fault (Change x) Stored (change_checks x) x.time (λ u. changing u x) refl
+        (λ k. let u = clocked s x.time in no_fault F Stored (changing_in u.current x) u (λ a. with_current (with_change a x) u) (λ a. terms_told a (stored_price a x.price) (stored_size a x.size)) (λ _. refl))
+    fault_is (Withdraw x) =
+        timed_fault (Withdraw x) Stored (withdraw_checks x) x.time (λ u. withdrawing u x) refl
+        (λ k. let u = clocked s x.time in no_fault F Stored (withdrawing_from u.current x) u (λ f. with_current (with_withdrawal f.0 x) u) (λ f. terms_told f.0 f.1.price f.1.size) (λ _. refl))
+    fault_is (Tick t x) =
+        timed_fault (Tick t x) (λ _. Accepted) (time_checks t) t (λ u. ticking w u x) refl
+        (λ k. let u = clocked s t in
+        ticking_fault u (w.market.answer u.position x) x ∙ ap (λ (z : P). fault_in (w.market.answer z x)) (finds s (Tick t x) t h k refl).position_is)
+    fault_is (Halt t) = timed_fault (Halt t) (λ _. Accepted) (time_checks t) t (λ u. (with_halted true (ended (byte "H") u), Ok tt)) refl (λ k. refl)
+    fault_is (Resume t) = timed_fault (Resume t) (λ _. Accepted) (time_checks t) t (λ u. (with_halted false u, Ok tt)) refl (λ k. refl)
+    fault_is (Clock t) = timed_fault (Clock t) (λ _. Accepted) (time_checks t) t (λ u. (u, Ok tt)) refl (λ k. refl)
+    fault_is Look = refl
+    fault_is (Collect c n) =
+        no_fault F (λ k. Collected k (collect_rows w s c n)) (collectable s c n) s (λ e. with_waiting (without_number c.auction s.waiting) s) (λ e. record { count = length (fill_rows w e); cause = e.cause }) (λ _. refl)
+        ∙ sym (either_way (λ (o : Option F). o) (is_some (input_reason {T = T} (Collect c n))) None None None refl refl)
 
     pub answered_with_reason : (c : Call T) → AnsweredWithReason w number p q past (record { call = c; answer = (step w s c).1 })
     answered_with_reason c = record { reason = reason_is c; kind = kind_is_own c; claim = claim_is c; terms = terms_are c; fault = fault_is c }

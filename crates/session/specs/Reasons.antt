@@ -176,8 +176,8 @@ module _ {P T F Q : Type 0} (w : World P T F Q) (number : ℕ) (p : P) (q : Q) (
     pub claim : (c : ClaimNumbers) → x.answer ≡ Opened c → c ≡ record { room = number; auction = openings past + 1 }
     -- The stored price and size that are told.
     pub terms : (t : StoredTerms) → x.answer ≡ Stored t → terms_due (found_open w p q past x.call) x.call ≡ Some t
-    -- A tick that passes its input check is told the market's fault, if it has one.
-    pub fault : (f : F) → input_reason x.call ≡ None → market_fault w p q past x.call ≡ Some f → fault_told x.answer ≡ Some f
+    -- A tick that passes its input check is told the market's fault, if it has one; no other call is told one.
+    pub fault : fault_told x.answer ≡ cond (is_some (input_reason x.call)) None (market_fault w p q past x.call)
 
 -- Each answer of a run has its reason in the calls and answers before it, and what is told follows from them.
 abbrev pub AnswersHaveTheirReasons : {P T F Q : Type 0} → World P T F Q → ℕ → P → Q → List (Moment P T F Q) → Moment P T F Q → Type 0
