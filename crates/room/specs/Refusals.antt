@@ -79,8 +79,3 @@ and_then (Err e) f = Err e
 abbrev pub outcome : {S X Y F : Type 0} → Result X ℕ → S → (X → S) → (X → Y) → S × Result Y (RefusalTold F)
 outcome (Ok x) s effect answer = (effect x, Ok (answer x))
 outcome (Err n) s effect answer = (s, Err (by_number n))
-
--- An answer with what it accepts seen as another value; a refusal stays.
-abbrev pub seen_as : {X Y R : Type 0} → Result X R → (X → Y) → Result Y R
-seen_as (Ok x) f = Ok (f x)
-seen_as (Err e) f = Err e
