@@ -1,12 +1,13 @@
 -- A ranking and an interval source that are chosen while the program runs mean what the chosen one means.
 use Rattle.std.specs.Prelude.{ℕ, Bool, Result, Ok}
+use Rattle.std.specs.Result.{result_map_both}
 use Rattle.allocation.specs.declared.response.Key.{Key}
 use Rattle.allocation.specs.Rankings.{earlier, larger}
 use Rattle.interval.specs.declared.refusal.IntervalRefusal.{IntervalRefusal}
 use Rattle.interval.specs.Fixed.{fixed_made}
+use Rattle.interval.specs.Refusals.{interval_refusal_number}
 use Rattle.interval.specs.Source.{SourceMeaning}
 use Rattle.interval.specs.Stepping.{stepped, drawn}
-use Rattle.room.specs.Refusals.{seen_as}
 use Rattle.script.specs.declared.statement.IntervalTerms.{IntervalTerms}
 use Rattle.script.specs.declared.statement.IntervalTerms.TheVariants as terms
 use Rattle.script.specs.declared.chosen.ChosenInterval.{ChosenInterval}
@@ -38,6 +39,10 @@ interval_terms (Fixed s) = terms.Fixed s.length
 interval_terms (Drawn s) = terms.Drawn s.seed
 
 -- An interval source of these terms: refusal 8 for a fixed length outside 100 to 1,000.
-abbrev pub interval_made : IntervalTerms → Result IntervalTerms IntervalRefusal
-interval_made (terms.Fixed n) = seen_as (fixed_made n) terms.Fixed
+abbrev pub interval_made : IntervalTerms → Result IntervalTerms ℕ
+interval_made (terms.Fixed n) = result_map_both terms.Fixed (λ e. e) (fixed_made n)
 interval_made (terms.Drawn n) = Ok (terms.Drawn n)
+
+-- The terms of a source that was made, or the refusal's number.
+abbrev pub interval_result : Result ChosenInterval IntervalRefusal → Result IntervalTerms ℕ
+interval_result = result_map_both interval_terms interval_refusal_number

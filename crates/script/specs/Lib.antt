@@ -9,6 +9,7 @@ pub mod Grammar
 pub mod SettingRefusals
 pub mod Setups
 pub mod Ranges
+pub mod Told
 pub mod Texts
 pub mod Misreadings
 pub mod Replies

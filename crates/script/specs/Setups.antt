@@ -1,27 +1,25 @@
 -- Setting up: what a script has told so far, what a setting is answered, and what the room is made of at the first call.
 use Rattle.std.specs.Prelude.{ℕ, Bool, true, false, cond, List, [], ◌∷◌, ◌++◌, length, nat_lt, is_ok, Option, Some, None, Result, Ok, Err}
 use Rattle.std.specs.Option.{option_map}
-use Rattle.interval.specs.declared.refusal.IntervalRefusal.{IntervalRefusal}
+use Rattle.std.specs.Result.{result_map_both}
 use Rattle.market.specs.declared.legs.leg.Leg.{Leg}
 use Rattle.market.specs.declared.legs.leg.LegTerms.{LegTerms}
 use Rattle.market.specs.declared.refusal.SetupRefusal.{SetupRefusal}
 use Rattle.market.specs.Legs.{legs_of, legs_add, unquoted}
-use Rattle.room.specs.Refusals.{seen_as}
+use Rattle.market.specs.Refusals.{setup_number}
 use Rattle.script.specs.Chosen.{interval_terms, interval_made}
 use Rattle.script.specs.declared.chosen.ChosenRanking.{ChosenRanking}
 use Rattle.script.specs.declared.setup.RoomTerms.{RoomTerms}
 use Rattle.script.specs.declared.setup.Setup.{Setup}
-use Rattle.script.specs.declared.setup.failure.SettingFailure.{SettingFailure}
-use Rattle.script.specs.declared.setup.failure.SettingFailure.TheVariants.{Refused, AfterFirstCall}
-use Rattle.script.specs.declared.setup.failure.SettingRefusal.{SettingRefusal}
-use Rattle.script.specs.declared.setup.failure.SettingRefusal.TheVariants as refusal
 use Rattle.script.specs.declared.setup.failure.Wanting.{Wanting}
 use Rattle.script.specs.declared.setup.failure.Wanting.TheVariants as wanting
+use Rattle.script.specs.declared.setup.legs.FirstLeg.{FirstLeg}
 use Rattle.script.specs.declared.setup.legs.LegsSoFar.{LegsSoFar}
 use Rattle.script.specs.declared.setup.legs.LegsSoFar.TheVariants.{Nothing, One, Strategy}
 use Rattle.script.specs.declared.statement.IntervalTerms.{IntervalTerms}
 use Rattle.script.specs.declared.statement.Setting.{Setting}
 use Rattle.script.specs.declared.statement.Setting.TheVariants as setting
+use Rattle.script.specs.SettingRefusals.{FailureTold, Refused, AfterFirstCall}
 
 -- The legs that were told so far, in their order.
 abbrev pub legs_told : LegsSoFar → List Leg
@@ -30,12 +28,20 @@ legs_told (One leg) = unquoted leg.terms ∷ []
 legs_told (Strategy legs) = legs_of legs
 
 -- One leg more behind them: refusal 9 for its ratio, then 10 for a fifth leg.
-abbrev pub legs_with : List Leg → LegTerms → Result (List Leg) SetupRefusal
-legs_with ls x = seen_as (legs_add ls x) (λ _. ls ++ unquoted x ∷ [])
+abbrev pub legs_with : List Leg → LegTerms → Result (List Leg) ℕ
+legs_with ls x = result_map_both (λ _. ls ++ unquoted x ∷ []) (λ e. e) (legs_add ls x)
+
+-- The legs, or the refusal's number.
+abbrev pub legs_result : Result LegsSoFar SetupRefusal → Result (List Leg) ℕ
+legs_result = result_map_both legs_told setup_number
 
 -- A first leg: refusal 9 for its ratio.
-abbrev pub first_made : LegTerms → Result LegTerms SetupRefusal
-first_made x = seen_as (legs_add [] x) (λ _. x)
+abbrev pub first_made : LegTerms → Result LegTerms ℕ
+first_made x = result_map_both (λ _. x) (λ e. e) (legs_add [] x)
+
+-- The first leg, or the refusal's number.
+abbrev pub first_result : Result FirstLeg SetupRefusal → Result LegTerms ℕ
+first_result = result_map_both (λ leg. leg.terms) setup_number
 
 -- Two legs and more are a strategy.
 abbrev pub strategy_in : List Leg → Option (List Leg)
@@ -55,35 +61,23 @@ told_of s = record { number = s.number; legs = legs_told s.legs; ranking = s.ran
 abbrev pub nothing_told : Told
 nothing_told = record { number = None; legs = []; ranking = None; interval = None; made = false }
 
--- What is told with one setting more, or for what it is refused. A number, a ranking or an interval takes the place of the
+-- What is told with one setting more, or the number of the refusal. A number, a ranking or an interval takes the place of the
 -- one before; a leg stands behind the others.
-abbrev pub told_with : Told → Setting → Result Told SettingRefusal
+abbrev pub told_with : Told → Setting → Result Told ℕ
 told_with t (setting.Room n) = Ok (record t { number = Some n })
-told_with t (setting.Leg x) = legs_refused (legs_with t.legs x)
-  where
-    legs_refused : Result (List Leg) SetupRefusal → Result Told SettingRefusal
-    legs_refused (Ok ls) = Ok (record t { legs = ls })
-    legs_refused (Err e) = Err (refusal.Legs e)
+told_with t (setting.Leg x) = result_map_both (λ ls. record t { legs = ls }) (λ e. e) (legs_with t.legs x)
 told_with t (setting.Ranking r) = Ok (record t { ranking = Some r })
-told_with t (setting.Interval x) = interval_refused (interval_made x)
-  where
-    interval_refused : Result IntervalTerms IntervalRefusal → Result Told SettingRefusal
-    interval_refused (Ok x) = Ok (record t { interval = Some x })
-    interval_refused (Err e) = Err (refusal.Interval e)
+told_with t (setting.Interval x) = result_map_both (λ i. record t { interval = Some i }) (λ e. e) (interval_made x)
 
 -- A setting is not taken when the room is made.
-abbrev pub setting_answer : Told → Setting → Result (Unit {0}) SettingFailure
-setting_answer t s = cond t.made (Err AfterFirstCall) (answered (told_with t s))
-  where
-    answered : Result Told SettingRefusal → Result (Unit {0}) SettingFailure
-    answered (Ok u) = Ok tt
-    answered (Err e) = Err (Refused e)
+abbrev pub setting_answer : Told → Setting → Result (Unit {0}) FailureTold
+setting_answer t s = cond t.made (Err AfterFirstCall) (result_map_both (λ _. tt) Refused (told_with t s))
 
 -- A setting that is not taken leaves what was told.
 abbrev pub told_after : Told → Setting → Told
 told_after t s = cond t.made t (taken (told_with t s))
   where
-    taken : Result Told SettingRefusal → Told
+    taken : Result Told ℕ → Told
     taken (Ok u) = u
     taken (Err e) = t
 
@@ -110,6 +104,10 @@ room_in t =
     needs t.ranking wanting.Ranking (λ ranking.
     needs t.interval wanting.Interval (λ interval.
     Ok (record { number = number; legs = legs; ranking = ranking; interval = interval })))))
+
+-- The room that was made, or what is wanting.
+abbrev pub room_result : Result RoomTerms Wanting → Result RoomTold Wanting
+room_result = result_map_both room_told (λ e. e)
 
 -- At the first call for which nothing is wanting the room is made.
 abbrev pub told_after_call : Told → Told

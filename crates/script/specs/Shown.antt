@@ -1,15 +1,14 @@
 -- What a member is shown of a transcript: what the law of learning speaks of.
 use Rattle.std.specs.Prelude.{ℕ, Option, None}
-use Rattle.market.specs.declared.better_of.Half.{Half}
-use Rattle.market.specs.declared.fault.Fault.{Fault}
 use Rattle.script.specs.declared.statement.Statement.{Statement}
 use Rattle.script.specs.declared.statement.Statement.TheVariants.{Setting, Call, Range}
 use Rattle.script.specs.Statements.{call_of}
+use Rattle.script.specs.Told.{CubeFaultTold}
 use Rattle.session.specs.Runs.{Answer}
 use Rattle.session.specs.Learning.{shown_of}
 
 -- Of a call's answer what a run shows of it, whatever the room's number; of other statements nothing.
-abbrev pub answer_shown : ℕ → Statement → Answer (Half Fault Fault) → Option (Answer (Half Fault Fault))
+abbrev pub answer_shown : ℕ → Statement → Answer CubeFaultTold → Option (Answer CubeFaultTold)
 answer_shown member (Setting s) a = None
 answer_shown member (Call c) a = shown_of member (call_of 0 c) a
 answer_shown member (Range r) a = None

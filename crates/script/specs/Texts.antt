@@ -2,26 +2,20 @@
 use Rattle.std.specs.Prelude.{ℕ, ℤ, List, [], ◌∷◌, ◌++◌, codes, cond, ◌==◌, Option, Some, None}
 use Rattle.std.specs.Fmt.{decimal, signed_decimal}
 use Rattle.std.specs.List.{flat_map}
-use Rattle.allocation.specs.Causes.{cause_letter}
 use Rattle.allocation.specs.Classes.{class_name}
 use Rattle.allocation.specs.declared.fill.FillRow.{FillRow}
 use Rattle.allocation.specs.declared.response.Kind.{Kind}
 use Rattle.allocation.specs.declared.response.Kind.TheVariants.{Sealed, Plain}
-use Rattle.market.specs.declared.better_of.Half.{Half}
 use Rattle.market.specs.declared.better_of.Half.TheVariants.{Left, Right}
-use Rattle.market.specs.declared.fault.Fault.{Fault}
-use Rattle.market.specs.Faults.{cause_number}
 use Rattle.market.specs.Names.{side_name}
 use Rattle.room.specs.declared.answers.AuctionView.{AuctionView}
-use Rattle.room.specs.declared.answers.Collection.{Collection}
 use Rattle.room.specs.declared.answers.StoredTerms.{StoredTerms}
 use Rattle.room.specs.declared.answers.View.{View}
-use Rattle.room.specs.declared.refusal.Refusal.{Refusal}
-use Rattle.room.specs.declared.refusal.Refusal.TheVariants.{MarketFault}
-use Rattle.room.specs.Refusals.{refusal_number}
+use Rattle.room.specs.Collecting.{CollectionTold}
+use Rattle.room.specs.Refusals.{RefusalTold}
 use Rattle.script.specs.declared.transcript.range.RangeTold.{RangeTold}
-use Rattle.session.specs.declared.answers.Answer.{Answer}
-use Rattle.session.specs.declared.answers.Answer.TheVariants.{Opened, Stored, Accepted, Looked, Collected, Refused, NoClaim}
+use Rattle.script.specs.Told.{CubeFaultTold, AnswerTold}
+use Rattle.session.specs.Runs.{Opened, Stored, Accepted, Looked, Collected, Refused}
 
 abbrev pub kind_text : Kind → List ℕ
 kind_text Sealed = codes "sealed"
@@ -54,35 +48,35 @@ abbrev pub view_text : View → List ℕ
 view_text v = codes "time " ++ decimal v.time ++ codes " " ++ cond v.halted (codes "halted") (codes "running") ++ codes " waiting " ++ decimal v.waiting ++ codes " " ++ auction_text v.auction
 
 -- leg cause 3 place 2: which half of the market refused, the cause and the place
-abbrev pub fault_text : Half Fault Fault → List ℕ
-fault_text (Left e) = codes "book cause " ++ decimal (cause_number e.cause) ++ codes " place " ++ decimal e.place
-fault_text (Right e) = codes "leg cause " ++ decimal (cause_number e.cause) ++ codes " place " ++ decimal e.place
+abbrev pub fault_text : CubeFaultTold → List ℕ
+fault_text (Left e) = codes "book cause " ++ decimal e.cause ++ codes " place " ++ decimal e.place
+fault_text (Right e) = codes "leg cause " ++ decimal e.cause ++ codes " place " ++ decimal e.place
 
--- What a refusal has behind its number: the market's fault.
-abbrev pub fault_behind : Refusal (Half Fault Fault) → List ℕ
-fault_behind (MarketFault e) = codes " " ++ fault_text e
-fault_behind e = []
+-- What a refusal has behind its number: the market's fault, if it holds one.
+abbrev pub fault_behind : Option CubeFaultTold → List ℕ
+fault_behind None = []
+fault_behind (Some e) = codes " " ++ fault_text e
 
 -- 15, or 31 leg cause 3 place 2
-abbrev pub refusal_text : Refusal (Half Fault Fault) → List ℕ
-refusal_text e = decimal (refusal_number e) ++ fault_behind e
+abbrev pub refusal_text : RefusalTold CubeFaultTold → List ℕ
+refusal_text e = decimal e.number ++ fault_behind e.fault
 
 -- 4 cause T
-abbrev pub collection_text : Collection → List ℕ
-collection_text c = decimal c.count ++ codes " cause " ++ cause_letter c.cause ∷ []
+abbrev pub collection_text : CollectionTold → List ℕ
+collection_text c = decimal c.count ++ codes " cause " ++ c.cause ∷ []
 
 -- collected 4 cause T, and the rows
-abbrev pub collected_text : Collection → List FillRow → List ℕ
+abbrev pub collected_text : CollectionTold → List FillRow → List ℕ
 collected_text c rows = codes "collected " ++ collection_text c ++ rows_text rows
 
-abbrev pub answer_text : Answer (Half Fault Fault) → List ℕ
-answer_text (Opened c) = codes "opened " ++ decimal c.auction
-answer_text (Stored s) = codes "stored " ++ stored_text s
-answer_text Accepted = codes "accepted"
-answer_text (Looked v) = view_text v
-answer_text (Collected c rows) = collected_text c rows.items
-answer_text (Refused e) = codes "refused " ++ refusal_text e
-answer_text NoClaim = codes "no claim"
+abbrev pub answer_text : AnswerTold → List ℕ
+answer_text None = codes "no claim"
+answer_text (Some (Opened c)) = codes "opened " ++ decimal c.auction
+answer_text (Some (Stored s)) = codes "stored " ++ stored_text s
+answer_text (Some Accepted) = codes "accepted"
+answer_text (Some (Looked v)) = view_text v
+answer_text (Some (Collected c rows)) = collected_text c rows
+answer_text (Some (Refused e)) = codes "refused " ++ refusal_text e
 
 -- 294 to 304
 abbrev pub span_text : ℤ → ℤ → List ℕ

@@ -1,8 +1,7 @@
 // A ranking and an interval source that are chosen while the program runs. Each is one of those that are built, so a room over
 // them needs no code of its own.
 ghost use Rattle.std.specs.Prelude.{◌≡◌};
-ghost use Rattle.room.specs.Refusals.{seen_as};
-ghost use Rattle.script.specs.Chosen.{chosen_ahead, chosen_meaning, interval_terms, interval_made};
+ghost use Rattle.script.specs.Chosen.{chosen_ahead, chosen_meaning, interval_made, interval_result};
 ghost use Rattle.script.specs.declared.chosen.ChosenInterval.{ChosenInterval};
 ghost use Rattle.std.proofs.Common.{rules, arith};
 
@@ -49,7 +48,7 @@ pub enum ChosenInterval {
 impl ChosenInterval {
     // The source of these terms. A fixed length outside its limits is refused.
     pub fn new(terms: IntervalTerms) -> Result<ChosenInterval, IntervalRefusal>
-        ensures { seen_as result interval_terms ≡ interval_made terms }
+        ensures { interval_result result ≡ interval_made terms }
     {
         match terms {
             IntervalTerms::Fixed { milliseconds } => {

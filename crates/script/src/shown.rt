@@ -1,18 +1,17 @@
 // What a member is shown of a transcript.
 ghost use Rattle.std.specs.Prelude.{◌≡◌, ℕ, cond, Some, None};
-ghost use Rattle.market.specs.declared.better_of.Half.{Half};
-ghost use Rattle.market.specs.declared.fault.Fault.{Fault};
 ghost use Rattle.session.specs.Runs.{Answer};
 ghost use Rattle.session.specs.Learning.{shown_of};
 ghost use Rattle.script.specs.Statements.{call_of};
 ghost use Rattle.script.specs.Shown.{answer_shown};
+ghost use Rattle.script.specs.Told.{CubeFaultTold};
 
 use crate::statement::{CallStatement, Statement};
 
 impl CallStatement {
     // Whether a member is shown what the call is answered: looks, and its own responses, changes and withdrawals.
     pub fn is_shown_to(&self, member: u8) -> bool
-        ensures { (room : ℕ) (a : Answer (Half Fault Fault)) → shown_of member (call_of room self.now) a ≡ cond result (Some a) None }
+        ensures { (room : ℕ) (a : Answer CubeFaultTold) → shown_of member (call_of room self.now) a ≡ cond result (Some a) None }
     {
         match self {
             CallStatement::Look => true,
@@ -27,7 +26,7 @@ impl CallStatement {
 impl Statement {
     // Whether a member is shown what the statement is answered. Settings and questions for ranges are no calls.
     pub fn is_shown_to(&self, member: u8) -> bool
-        ensures { (a : Answer (Half Fault Fault)) → answer_shown member self.now a ≡ cond result (Some a) None }
+        ensures { (a : Answer CubeFaultTold) → answer_shown member self.now a ≡ cond result (Some a) None }
     {
         match self {
             Statement::Call(call) => call.is_shown_to(member),

@@ -1,7 +1,8 @@
 // Setting up: what a script tells before its first call, and the room that is made of it then.
 ghost use Rattle.std.specs.Prelude.{◌≡◌};
-ghost use Rattle.room.specs.Refusals.{seen_as};
-ghost use Rattle.script.specs.Setups.{told_of, nothing_told, room_told, setting_answer, told_after, room_in, told_after_call};
+ghost use Rattle.market.specs.Meaning.{told_by};
+ghost use Rattle.script.specs.SettingRefusals.{failure_told};
+ghost use Rattle.script.specs.Setups.{told_of, nothing_told, room_result, setting_answer, told_after, room_in, told_after_call};
 
 pub mod failure;
 mod legs;
@@ -47,7 +48,7 @@ impl Setup {
 
     // Takes a setting. A refused one, and one that comes when the room is made, leaves what was told.
     pub fn set(&mut self, setting: Setting) -> Result<(), SettingFailure>
-        ensures answer { result ≡ setting_answer (told_of self.old) setting }
+        ensures answer { told_by failure_told result ≡ setting_answer (told_of self.old) setting }
         ensures after { told_of self.new ≡ told_after (told_of self.old) setting }
     {
         if self.made {
@@ -63,7 +64,7 @@ impl Setup {
     }
 
     fn terms(&self) -> Result<RoomTerms, Wanting>
-        ensures { seen_as result room_told ≡ room_in (told_of self.now) }
+        ensures { room_result result ≡ room_in (told_of self.now) }
     {
         let number = self.number.ok_or(Wanting::Number)?;
         let legs = self.legs.strategy().ok_or(Wanting::Legs)?;
@@ -79,7 +80,7 @@ impl Setup {
 
     // What the room is made of, for a call on it or a question to its market: at the first, the room is made.
     pub fn room(&mut self) -> Result<RoomTerms, Wanting>
-        ensures answer { seen_as result room_told ≡ room_in (told_of self.old) }
+        ensures answer { room_result result ≡ room_in (told_of self.old) }
         ensures after { told_of self.new ≡ told_after_call (told_of self.old) }
     {
         let terms = self.terms()?;

@@ -1,6 +1,9 @@
 // The text of the answers to calls.
 ghost use Rattle.std.specs.Prelude.{Some};
+ghost use Rattle.room.specs.Refusals.{refusal_told};
+ghost use Rattle.room.specs.Rooms.{collection_told};
 ghost use Rattle.script.specs.Texts.{stored_text, auction_text, view_text, fault_text, refusal_text, collection_text, collected_text, answer_text};
+ghost use Rattle.script.specs.Told.{cube_fault_told, answer_told};
 
 use super::rows::RowsText;
 use allocation::fill::FillRow;
@@ -71,7 +74,7 @@ impl fmt::Display for ViewText {
 struct FaultText<'a>(&'a CubeFault);
 
 impl fmt::Display for FaultText<'_> {
-    ghost output = { λ x. Some (fault_text x.0.now) };
+    ghost output = { λ x. Some (fault_text (cube_fault_told x.0.now)) };
 
     fn fmt<W: fmt::Write>(&self, f: &mut fmt::Formatter<W>) -> fmt::Result {
         let (half, fault) = match self.0 {
@@ -89,7 +92,7 @@ impl fmt::Display for FaultText<'_> {
 pub struct RefusalText<'a>(pub &'a Refusal<CubeFault>);
 
 impl fmt::Display for RefusalText<'_> {
-    ghost output = { λ x. Some (refusal_text x.0.now) };
+    ghost output = { λ x. Some (refusal_text (refusal_told cube_fault_told x.0.now)) };
 
     fn fmt<W: fmt::Write>(&self, f: &mut fmt::Formatter<W>) -> fmt::Result {
         let number = self.0.number();
@@ -108,7 +111,7 @@ impl fmt::Display for RefusalText<'_> {
 struct CollectionText(Collection);
 
 impl fmt::Display for CollectionText {
-    ghost output = { λ x. Some (collection_text x.0) };
+    ghost output = { λ x. Some (collection_text (collection_told x.0)) };
 
     fn fmt<W: fmt::Write>(&self, f: &mut fmt::Formatter<W>) -> fmt::Result {
         let count = self.0.count;
@@ -122,7 +125,7 @@ impl fmt::Display for CollectionText {
 pub struct CollectedText<'a>(pub Collection, pub &'a [FillRow]);
 
 impl fmt::Display for CollectedText<'_> {
-    ghost output = { λ x. Some (collected_text x.0 x.1.now) };
+    ghost output = { λ x. Some (collected_text (collection_told x.0) x.1.now) };
 
     fn fmt<W: fmt::Write>(&self, f: &mut fmt::Formatter<W>) -> fmt::Result {
         let collection = CollectionText(self.0);
@@ -136,7 +139,7 @@ impl fmt::Display for CollectedText<'_> {
 pub struct AnswerText<'a>(pub &'a Answer<CubeFault>);
 
 impl fmt::Display for AnswerText<'_> {
-    ghost output = { λ x. Some (answer_text x.0.now) };
+    ghost output = { λ x. Some (answer_text (answer_told x.0.now)) };
 
     fn fmt<W: fmt::Write>(&self, f: &mut fmt::Formatter<W>) -> fmt::Result {
         match self.0 {

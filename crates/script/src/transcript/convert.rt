@@ -1,7 +1,9 @@
 // Outcomes of a statement as replies.
 ghost use Rattle.std.specs.Prelude.{◌≡◌};
+ghost use Rattle.market.specs.Meaning.{told_by};
 ghost use Rattle.market.specs.Range.{range_answer};
-ghost use Rattle.script.specs.Replies.{setting_reply, range_reply};
+ghost use Rattle.script.specs.Replies.{reply_told, setting_reply, range_reply};
+ghost use Rattle.script.specs.SettingRefusals.{failure_told};
 ghost use Rattle.script.specs.declared.transcript.NotUnderstood.TheVariants as why;
 
 use super::range::RangeTold;
@@ -31,7 +33,7 @@ impl From<Wanting> for NotUnderstood {
 impl Reply {
     // What a setting is answered.
     pub fn to_setting(outcome: Result<(), SettingFailure>) -> Reply
-        ensures { result ≡ setting_reply outcome }
+        ensures { reply_told result ≡ setting_reply (told_by failure_told outcome) }
     {
         match outcome {
             Ok(()) => Reply::Answered(Answer::Accepted),
@@ -44,7 +46,7 @@ impl Reply {
 
     // What a question for a range is answered.
     pub fn to_range(outcome: Result<PermittedRange, RangeRefusal>) -> Reply
-        ensures { result ≡ range_reply (range_answer outcome) }
+        ensures { reply_told result ≡ range_reply (range_answer outcome) }
     {
         match outcome {
             Ok(range) => Reply::Permitted(RangeTold::new(range)),

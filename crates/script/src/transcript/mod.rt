@@ -1,7 +1,7 @@
 // What a statement is answered, and its text, as the transcript has it behind the line's number.
 ghost use Rattle.std.specs.Prelude.{◌≡◌, Some};
 ghost use Rattle.script.specs.Misreadings.{not_understood_text};
-ghost use Rattle.script.specs.Replies.{reply_text};
+ghost use Rattle.script.specs.Replies.{reply_text, reply_told};
 
 pub mod answers;
 mod convert;
@@ -48,7 +48,7 @@ impl fmt::Display for NotUnderstood {
 }
 
 impl fmt::Display for Reply {
-    ghost output = { λ x. Some (reply_text x) };
+    ghost output = { λ x. Some (reply_text (reply_told x)) };
 
     fn fmt<W: fmt::Write>(&self, f: &mut fmt::Formatter<W>) -> fmt::Result {
         match self {

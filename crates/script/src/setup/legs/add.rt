@@ -2,8 +2,7 @@
 ghost use Rattle.std.specs.Prelude.{◌≡◌};
 ghost use Rattle.std.specs.Option.{option_map};
 ghost use Rattle.market.specs.Legs.{legs_of};
-ghost use Rattle.room.specs.Refusals.{seen_as};
-ghost use Rattle.script.specs.Setups.{first_made, legs_told, legs_with, strategy_in};
+ghost use Rattle.script.specs.Setups.{first_made, first_result, legs_result, legs_told, legs_with, strategy_in};
 
 use super::{FirstLeg, LegsSoFar};
 use market::legs::Legs;
@@ -13,7 +12,7 @@ use market::refusal::SetupRefusal;
 impl FirstLeg {
     // A leg that a strategy may have: one could be made of it twice.
     fn checked(terms: LegTerms) -> Result<FirstLeg, SetupRefusal>
-        ensures { seen_as result (λ leg. leg.terms) ≡ first_made terms }
+        ensures { first_result result ≡ first_made terms }
     {
         Legs::new(terms, terms)?;
         Ok(FirstLeg { terms })
@@ -23,7 +22,7 @@ impl FirstLeg {
 impl LegsSoFar {
     // The legs with one more, or why it is refused.
     pub(crate) fn with(self, leg: LegTerms) -> Result<LegsSoFar, SetupRefusal>
-        ensures { seen_as result legs_told ≡ legs_with (legs_told self) leg }
+        ensures { legs_result result ≡ legs_with (legs_told self) leg }
     {
         match self {
             LegsSoFar::Nothing => Ok(LegsSoFar::One(FirstLeg::checked(leg)?)),
