@@ -1,18 +1,14 @@
 -- Scripts that are alike to a member have the same text for it. What a member reads is written of what it is shown at each
 -- call; and what it is shown is the same by the law of what a member may learn.
-use Rattle.std.proofs.Common.{◌≡◌, ◌++◌, ◌∙◌, ap, sym, subst, refl, ℕ, Bool, true, false, cond, List, [], ◌∷◌, map, codes, ◌==◌, is_some, Option, Some, None, vec_items}
-use Rattle.std.specs.Fmt.{decimal}
+use Rattle.std.proofs.Common.{◌≡◌, ◌++◌, ◌∙◌, ap, sym, subst, refl, ℕ, Bool, true, false, cond, List, [], ◌∷◌, map, ◌==◌, is_some, Option, Some, None, vec_items}
 use Rattle.std.specs.Option.{option_map}
-use Rattle.day.specs.declared.lines.Line.{Line}
-use Rattle.day.specs.declared.lines.Said.{Said}
-use Rattle.day.specs.declared.lines.Said.TheVariants.{Replied, Call, Range}
 use Rattle.day.specs.Alike.{SaidAlike, LinesAlike, ScriptAlikeToItself, MemberReadsTheSame}
 use Rattle.day.specs.Calls.{call_in, calls_in}
 use Rattle.day.specs.CarriedOut.{world_in, start_in}
 use Rattle.day.specs.ForMember.{transcript_line, answered_line, line_for, answers_behind, text_for}
+use Rattle.day.specs.Lines.{Line, Said, Replied, Call, Range}
 use Rattle.market.specs.Cube.{CubePosition}
 use Rattle.market.specs.declared.better_of.Half.{Half}
-use Rattle.market.specs.declared.fault.Fault.{Fault}
 use Rattle.market.specs.declared.legs.leg.LegTick.{LegTick}
 use Rattle.market.specs.declared.quote.Quote.{Quote}
 use Rattle.room.specs.World.{World}
@@ -20,81 +16,60 @@ use Rattle.script.specs.declared.chosen.ChosenInterval.{ChosenInterval}
 use Rattle.script.specs.declared.statement.CallStatement.{CallStatement}
 use Rattle.script.specs.declared.statement.CallStatement.TheVariants as statement
 use Rattle.script.specs.Statements.{call_of}
-use Rattle.script.specs.Texts.{stored_text, view_text, refusal_text, collection_text, rows_text, answer_text}
-use Rattle.session.specs.declared.answers.Answer.{Answer as CodeAnswer}
-use Rattle.session.specs.declared.answers.Answer.TheVariants as code
+use Rattle.script.specs.Texts.{answer_text}
+use Rattle.script.specs.Told.{CubeFaultTold, AnswerTold, answer_told}
 use Rattle.session.specs.declared.calls.Call.{Call as RoomCall}
 use Rattle.session.specs.Learning.{AllAlike}
-use Rattle.session.specs.Runs.{Answer, Moment, Opened, Stored, Accepted, Looked, Collected, Refused}
+use Rattle.session.specs.Runs.{Answer, Moment, Accepted}
 use Rattle.session.specs.Promises.{at_first}
 use Rattle.session.specs.SessionLearning.{seen_if_made}
 use Rattle.session.specs.Sessions.{Session, session_after, session_moment, session_moments}
-use Rattle.session.specs.Told.{told}
 use Rattle.session.proofs.Learning.Alike.{one_to_itself}
 
--- The text of an answer by what it tells.
-abbrev told_text : Option (Answer (Half Fault Fault)) → List ℕ
-told_text None = codes "no claim"
-told_text (Some (Opened c)) = codes "opened " ++ decimal c.auction
-told_text (Some (Stored s)) = codes "stored " ++ stored_text s
-told_text (Some Accepted) = codes "accepted"
-told_text (Some (Looked v)) = view_text v
-told_text (Some (Collected c rows)) = codes "collected " ++ collection_text c ++ rows_text rows
-told_text (Some (Refused e)) = codes "refused " ++ refusal_text e
-
-by_told : (a : CodeAnswer (Half Fault Fault)) → answer_text a ≡ told_text (told a)
-by_told (code.Opened c) = refl
-by_told (code.Stored s) = refl
-by_told code.Accepted = refl
-by_told (code.Looked v) = refl
-by_told (code.Collected c rows) = refl
-by_told (code.Refused e) = refl
-by_told code.NoClaim = refl
-
 -- The first and the others of a list, and what no list with a first is.
-abbrev head : List (Option (Answer (Half Fault Fault))) → Option (Answer (Half Fault Fault))
+abbrev head : List AnswerTold → AnswerTold
 head [] = None
 head (x ∷ xs) = x
 
-abbrev tail : List (Option (Answer (Half Fault Fault))) → List (Option (Answer (Half Fault Fault)))
+abbrev tail : List AnswerTold → List AnswerTold
 tail [] = []
 tail (x ∷ xs) = xs
 
-abbrev Empty : List (Option (Answer (Half Fault Fault))) → Type 0
+abbrev Empty : List AnswerTold → Type 0
 Empty [] = Unit {0}
 Empty (x ∷ xs) = ⊥
 
 -- The line of what is shown, if anything is.
-abbrev seen_line : ℕ → Option (Answer (Half Fault Fault)) → List ℕ
+abbrev seen_line : ℕ → AnswerTold → List ℕ
 seen_line n None = []
-seen_line n (Some a) = transcript_line n (told_text (Some a))
+seen_line n (Some a) = transcript_line n (answer_text (Some a))
 
-abbrev any_answer : Answer (Half Fault Fault)
+abbrev any_answer : Answer CubeFaultTold
 any_answer = Accepted
 
 abbrev ACall : Type 0
 ACall = RoomCall (Half Quote LegTick)
 
-module _ (w : World CubePosition (Half Quote LegTick) (Half Fault Fault) ChosenInterval) where
+module _ (w : World CubePosition (Half Quote LegTick) CubeFaultTold ChosenInterval) where
   abbrev AMoment : Type 0
-  AMoment = Moment CubePosition (Half Quote LegTick) (Half Fault Fault) ChosenInterval
+  AMoment = Moment CubePosition (Half Quote LegTick) CubeFaultTold ChosenInterval
 
-  abbrev answer_of : Option AMoment → Option (Answer (Half Fault Fault))
+  abbrev answer_of : Option AMoment → AnswerTold
   answer_of = option_map (λ (m : AMoment). m.answer)
 
   -- Where a call is made, its line is that of what is shown.
-  cond_line : (b : Bool) (n : ℕ) (a : CodeAnswer (Half Fault Fault)) (x : Answer (Half Fault Fault))
-      → told a ≡ Some x
+  cond_line : (b : Bool) (n : ℕ) (a : AnswerTold) (x : Answer CubeFaultTold)
+      → a ≡ Some x
       → cond (is_some (cond b (Some any_answer) None)) (transcript_line n (answer_text a)) [] ≡ seen_line n (cond b (Some x) None)
-  cond_line true n a x same = ap (transcript_line n) (by_told a ∙ ap told_text same)
+  cond_line true n a x same = ap (λ y. transcript_line n (answer_text y)) same
   cond_line false n a x same = refl
 
   unseen : (b : Bool) (u n : ℕ) (m : AMoment) → seen_if_made u (Some m) ≡ None → [] ≡ seen_line n (seen_if_made u (cond b (Some m) None))
   unseen true u n m none = ap (seen_line n) (sym none)
   unseen false u n m none = refl
 
-  one_line : (u n room : ℕ) (s : Session CubePosition ChosenInterval) (c : CallStatement) (a : CodeAnswer (Half Fault Fault))
-      → told a ≡ answer_of (session_moment w s (call_of room c))
+  one_line : (u n room : ℕ) (s : Session CubePosition ChosenInterval) (c : CallStatement) (a : AnswerTold)
+      → a ≡ answer_of (session_moment w s (call_of room c))
       → answered_line u n c a ≡ seen_line n (seen_if_made u (session_moment w s (call_of room c)))
   one_line u n room s (statement.Open x) a same = refl
   one_line u n room s (statement.Respond x) a same = cond_line (x.member == u) n a _ same
@@ -104,23 +79,23 @@ module _ (w : World CubePosition (Half Quote LegTick) (Half Fault Fault) ChosenI
   one_line u n room s (statement.Halt t) a same = refl
   one_line u n room s (statement.Resume t) a same = refl
   one_line u n room s (statement.Clock t) a same = refl
-  one_line u n room s statement.Look a same = ap (transcript_line n) (by_told a ∙ ap told_text same)
+  one_line u n room s statement.Look a same = ap (λ y. transcript_line n (answer_text y)) same
   one_line u n room s (statement.Collect auction rows) a same = unseen _ u n _ refl
 
   -- The text of these lines, of what is shown at each call.
-  abbrev seen_behind : Said → List (Option (Answer (Half Fault Fault))) → List (Option (Answer (Half Fault Fault)))
+  abbrev seen_behind : Said → List AnswerTold → List AnswerTold
   seen_behind (Replied r) xs = xs
   seen_behind (Range q) xs = xs
   seen_behind (Call c) [] = []
   seen_behind (Call c) (x ∷ xs) = xs
 
-  abbrev seen_at : ℕ → Said → List (Option (Answer (Half Fault Fault))) → List ℕ
+  abbrev seen_at : ℕ → Said → List AnswerTold → List ℕ
   seen_at n (Replied r) xs = []
   seen_at n (Range q) xs = []
   seen_at n (Call c) [] = []
   seen_at n (Call c) (x ∷ xs) = seen_line n x
 
-  abbrev seen_text : List Line → List (Option (Answer (Half Fault Fault))) → List ℕ
+  abbrev seen_text : List Line → List AnswerTold → List ℕ
   seen_text [] xs = []
   seen_text (l ∷ ls) xs = seen_at l.number l.said xs ++ seen_text ls (seen_behind l.said xs)
 
@@ -130,13 +105,13 @@ module _ (w : World CubePosition (Half Quote LegTick) (Half Fault Fault) ChosenI
   -- What is to be shown of all lines, from any session on.
   abbrev AsSeen : ℕ → ℕ → List Line → Type 0
   AsSeen u room ls =
-      (s : Session CubePosition ChosenInterval) (answers : List (CodeAnswer (Half Fault Fault)))
-      → map told answers ≡ map answer_of (moments room s ls)
+      (s : Session CubePosition ChosenInterval) (answers : List AnswerTold)
+      → answers ≡ map answer_of (moments room s ls)
       → text_for u ls answers ≡ seen_text ls (map (seen_if_made u) (moments room s ls))
 
   one_more : (u n room : ℕ) (ls : List Line) (x : Said) → AsSeen u room ls
-      → (s : Session CubePosition ChosenInterval) (answers : List (CodeAnswer (Half Fault Fault)))
-      → map told answers ≡ map answer_of (session_moments w s (call_in room x ++ calls_in room ls))
+      → (s : Session CubePosition ChosenInterval) (answers : List AnswerTold)
+      → answers ≡ map answer_of (session_moments w s (call_in room x ++ calls_in room ls))
       → line_for u n x answers ++ text_for u ls (answers_behind x answers)
       ≡ seen_at n x (map (seen_if_made u) (session_moments w s (call_in room x ++ calls_in room ls)))
       ++ seen_text ls (seen_behind x (map (seen_if_made u) (session_moments w s (call_in room x ++ calls_in room ls))))
@@ -152,7 +127,7 @@ module _ (w : World CubePosition (Half Quote LegTick) (Half Fault Fault) ChosenI
   all_lines u room (l ∷ ls) s answers same = one_more u l.number room ls l.said (all_lines u room ls) s answers same
 
   -- Alike lines have the same text of what is shown.
-  one_alike : (u room n : ℕ) (x y : Said) (xs : List (Option (Answer (Half Fault Fault)))) → SaidAlike u room x y
+  one_alike : (u room n : ℕ) (x y : Said) (xs : List AnswerTold) → SaidAlike u room x y
       → (seen_at n x xs ≡ seen_at n y xs) × (seen_behind x xs ≡ seen_behind y xs)
   one_alike u room n (Call c) (Call d) [] alike = (refl, refl)
   one_alike u room n (Call c) (Call d) (x ∷ xs) alike = (refl, refl)
@@ -165,7 +140,7 @@ module _ (w : World CubePosition (Half Quote LegTick) (Half Fault Fault) ChosenI
   one_alike u room n (Range p) (Replied s) xs alike = (refl, refl)
   one_alike u room n (Range p) (Range q) xs alike = (refl, refl)
 
-  same_text : (u room : ℕ) (ls ms : List Line) (xs : List (Option (Answer (Half Fault Fault)))) → LinesAlike u room ls ms
+  same_text : (u room : ℕ) (ls ms : List Line) (xs : List AnswerTold) → LinesAlike u room ls ms
       → seen_text ls xs ≡ seen_text ms xs
   same_text u room [] [] xs alike = refl
   same_text u room [] (m ∷ ms) xs alike = absurd alike
@@ -215,8 +190,8 @@ reads_the_same u terms ls ms text other one two alike opens ends =
     let others = two.carried_out.promise.session_laws in
     let seen = laws.learning u (calls_in room ms) (calls_alike u room ls ms alike) opens ends in
     one.written
-    ∙ all_lines w u room ls first (vec_items one.outcome.answers) (one.carried_out.promise.answers ∙ laws.answers)
+    ∙ all_lines w u room ls first (map answer_told (vec_items one.outcome.answers)) (one.carried_out.promise.answers ∙ laws.answers)
     ∙ ap (seen_text w ls) seen.shown
     ∙ same_text w u room ls ms (map (seen_if_made u) (moments w room first ms)) alike
-    ∙ sym (all_lines w u room ms first (vec_items two.outcome.answers) (two.carried_out.promise.answers ∙ others.answers))
+    ∙ sym (all_lines w u room ms first (map answer_told (vec_items two.outcome.answers)) (two.carried_out.promise.answers ∙ others.answers))
     ∙ sym two.written

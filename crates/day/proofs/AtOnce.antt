@@ -12,10 +12,7 @@ use Rattle.script.specs.declared.statement.Statement.{Statement}
 use Rattle.script.specs.declared.statement.Statement.TheVariants.{Setting, Call, Range}
 use Rattle.script.specs.Grammar.{statement_in}
 use Rattle.script.specs.Setups.{Told, RoomTold, nothing_told, room_in, room_told}
-use Rattle.day.specs.declared.lines.Line.{Line}
-use Rattle.day.specs.declared.lines.Said.{Said}
-use Rattle.day.specs.declared.lines.Said.TheVariants as said
-use Rattle.day.specs.Lines.{in_room, said_where, told_where, numbered, lines_said, told_behind_lines, room_of, script_lines}
+use Rattle.day.specs.Lines.{Line, Said, Call as SaidCall, Range as SaidRange, in_room, said_where, told_where, numbered, lines_said, told_behind_lines, room_of, script_lines}
 use Rattle.day.specs.WholeText.{is_at_once, NoneLeftOut}
 
 -- A room that is made stays as it is made.
@@ -66,8 +63,8 @@ one_more : (t : Told) (n : ℕ) (ls : List (List ℕ)) (x : Result (Option State
 one_more t n ls (Ok None) rest none = rest t (n + 1) none
 one_more t n ls (Err e) rest none = rest t (n + 1) none
 one_more t n ls (Ok (Some (Setting s))) rest none = rest _ (n + 1) none
-one_more t n ls (Ok (Some (Call c))) rest none = in_no_room t n (said.Call c) ls (room_in t) refl rest none
-one_more t n ls (Ok (Some (Range q))) rest none = in_no_room t n (said.Range q) ls (room_in t) refl rest none
+one_more t n ls (Ok (Some (Call c))) rest none = in_no_room t n (SaidCall c) ls (room_in t) refl rest none
+one_more t n ls (Ok (Some (Range q))) rest none = in_no_room t n (SaidRange q) ls (room_in t) refl rest none
 
 all_at_once : (ls : List (List ℕ)) → AllAtOnce ls
 all_at_once [] t n none = refl

@@ -3,12 +3,10 @@ use Rattle.std.proofs.Common.{◌≡◌, ◌++◌, ◌∙◌, ap, sym, refl, map
 use Rattle.std.proofs.lemmas.List.{append_assoc, at_drop_more}
 use Rattle.std.specs.Option.{option_map}
 use Rattle.std.specs.Result.{result_ok}
-use Rattle.room.specs.Refusals.{seen_as}
 use Rattle.script.specs.declared.setup.RoomTerms.{RoomTerms}
 use Rattle.script.specs.declared.setup.failure.Wanting.{Wanting}
-use Rattle.script.specs.Setups.{Told, RoomTold, room_told}
-use Rattle.day.specs.declared.lines.Line.{Line}
-use Rattle.day.specs.Lines.{said_in, told_behind_line, numbered, lines_said, told_behind_lines, room_of}
+use Rattle.script.specs.Setups.{Told, RoomTold, room_told, room_result}
+use Rattle.day.specs.Lines.{Line, said_in, told_behind_line, numbered, lines_said, told_behind_lines, room_of}
 
 -- One line more is read: it moves from those to come to those that were read.
 one_more : (before after : List Line) (t u : Told) (n : ℕ) (l : List ℕ) (ls : List (List ℕ))
@@ -40,10 +38,10 @@ one_told v xs i d t u inside told =
     ∙ sym (at_drop_more (λ left. told_behind_lines t (map v left)) xs i d inside)
 
 -- A room that is made is the room of what was told.
-room_made : (r : Result RoomTerms Wanting) → option_map room_told (result_ok r) ≡ room_of (seen_as r room_told)
+room_made : (r : Result RoomTerms Wanting) → option_map room_told (result_ok r) ≡ room_of (room_result r)
 room_made (Ok terms) = refl
 room_made (Err e) = refl
 
 pub room_told_made : (r : Result RoomTerms Wanting) (x : Result RoomTold Wanting)
-    → seen_as r room_told ≡ x → option_map room_told (result_ok r) ≡ room_of x
+    → room_result r ≡ x → option_map room_told (result_ok r) ≡ room_of x
 room_told_made r x same = room_made r ∙ ap room_of same

@@ -1,11 +1,9 @@
 -- Scripts that are alike to a member, and the law of what it may read of their transcripts.
 use Rattle.std.specs.Prelude.{◌≡◌, ℕ, List, [], ◌∷◌, map}
-use Rattle.day.specs.declared.lines.Line.{Line}
-use Rattle.day.specs.declared.lines.Said.{Said}
-use Rattle.day.specs.declared.lines.Said.TheVariants.{Replied, Call, Range}
 use Rattle.day.specs.Calls.{calls_in}
 use Rattle.day.specs.CarriedOut.{world_in, start_in}
 use Rattle.day.specs.ForMember.{TextFor}
+use Rattle.day.specs.Lines.{Line, Said, Replied, Call, Range}
 use Rattle.script.specs.declared.setup.RoomTerms.{RoomTerms}
 use Rattle.script.specs.Statements.{call_of}
 use Rattle.session.specs.Learning.{Alike}

@@ -1,8 +1,6 @@
 -- The calls of a script, in the order of its lines.
 use Rattle.std.specs.Prelude.{ℕ, List, [], ◌∷◌, ◌++◌}
-use Rattle.day.specs.declared.lines.Line.{Line}
-use Rattle.day.specs.declared.lines.Said.{Said}
-use Rattle.day.specs.declared.lines.Said.TheVariants.{Replied, Call, Range}
+use Rattle.day.specs.Lines.{Line, Said, Replied, Call, Range}
 use Rattle.market.specs.declared.better_of.Half.{Half}
 use Rattle.market.specs.declared.legs.leg.LegTick.{LegTick}
 use Rattle.market.specs.declared.quote.Quote.{Quote}

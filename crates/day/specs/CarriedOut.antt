@@ -3,7 +3,6 @@ use Rattle.std.specs.Prelude.{◌≡◌, List, [], map, vec_items}
 use Rattle.day.specs.declared.outcome.Outcome.{Outcome}
 use Rattle.market.specs.Cube.{CubePosition, cube_meaning, cube_position, cube_start}
 use Rattle.market.specs.declared.better_of.Half.{Half}
-use Rattle.market.specs.declared.fault.Fault.{Fault}
 use Rattle.market.specs.declared.legs.leg.LegTick.{LegTick}
 use Rattle.market.specs.declared.quote.Quote.{Quote}
 use Rattle.market.specs.Legs.{legs_of}
@@ -13,15 +12,15 @@ use Rattle.room.specs.World.{World}
 use Rattle.script.specs.Chosen.{chosen_ahead, chosen_meaning}
 use Rattle.script.specs.declared.chosen.ChosenInterval.{ChosenInterval}
 use Rattle.script.specs.declared.setup.RoomTerms.{RoomTerms}
+use Rattle.script.specs.Told.{CubeFaultTold, answer_told}
 use Rattle.session.specs.Claims.{claims_to}
 use Rattle.session.specs.Closings.{with_close}
 use Rattle.session.specs.declared.calls.Call.{Call}
 use Rattle.session.specs.Desks.{ToldAtClose, listed_told, told_at_close}
 use Rattle.session.specs.Promises.{Start, Carried, WholePromise}
-use Rattle.session.specs.Told.{told}
 
 -- The CUBE market, with the ranking and the interval source that the script chose.
-abbrev pub world_in : RoomTerms → World CubePosition (Half Quote LegTick) (Half Fault Fault) ChosenInterval
+abbrev pub world_in : RoomTerms → World CubePosition (Half Quote LegTick) CubeFaultTold ChosenInterval
 world_in terms = world_of cube_meaning chosen_meaning (chosen_ahead terms.ranking)
 
 -- The room at its making: no quote in the book, the legs as they were told, and no claim.
@@ -37,9 +36,9 @@ closed_room o = state_of cube_position (λ s. s) o.closed.room
 
 -- The calls with their answers, behind the last of which the room was in this state.
 abbrev pub calls_carried : RoomTerms → List (Call (Half Quote LegTick)) → Outcome → RoomState CubePosition ChosenInterval
-    → Carried CubePosition (Half Quote LegTick) (Half Fault Fault) ChosenInterval
+    → Carried CubePosition (Half Quote LegTick) CubeFaultTold ChosenInterval
 calls_carried terms calls o room =
-    record { start = start_in terms; calls = calls; answers = map told (vec_items o.answers); room = room; claims = claims_to room }
+    record { start = start_in terms; calls = calls; answers = map answer_told (vec_items o.answers); room = room; claims = claims_to room }
 
 pub record CarriedOut (terms : RoomTerms) (calls : List (Call (Half Quote LegTick))) (o : Outcome) : Type 0 where
   -- The room behind the last call.

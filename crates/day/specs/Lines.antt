@@ -1,42 +1,63 @@
--- The lines of a script, and what each says.
+-- The lines of a script, and what each says, as it is told.
 use Rattle.std.specs.Prelude.{Bool, true, false, ℕ, ◌+◌, List, [], ◌∷◌, ◌++◌, Option, Some, None, Result, Ok, Err}
 use Rattle.std.specs.List.{list_all}
 use Rattle.std.specs.Str.Lines.{lines}
-use Rattle.day.specs.declared.lines.Line.{Line}
-use Rattle.day.specs.declared.lines.Said.{Said}
-use Rattle.day.specs.declared.lines.Said.TheVariants as said
+use Rattle.day.specs.declared.lines.Line.{Line as CodeLine}
+use Rattle.day.specs.declared.lines.Said.{Said as CodeSaid}
+use Rattle.day.specs.declared.lines.Said.TheVariants as code
 use Rattle.script.specs.Grammar.{statement_in}
-use Rattle.script.specs.Replies.{setting_reply}
+use Rattle.script.specs.Replies.{Reply, Answered, SettingRefused, Permitted, RangeRefused, NotUnderstood, reply_told, setting_reply}
 use Rattle.script.specs.Setups.{nothing_told, Told, RoomTold, setting_answer, told_after, room_in, told_after_call}
 use Rattle.script.specs.declared.misread.Misread.{Misread}
 use Rattle.script.specs.declared.setup.failure.Wanting.{Wanting}
+use Rattle.script.specs.declared.statement.CallStatement.{CallStatement}
+use Rattle.script.specs.declared.statement.RangeQuestion.{RangeQuestion}
 use Rattle.script.specs.declared.statement.Statement.{Statement}
-use Rattle.script.specs.declared.statement.Statement.TheVariants.{Setting, Call, Range}
+use Rattle.script.specs.declared.statement.Statement.TheVariants as statement
 use Rattle.script.specs.declared.transcript.NotUnderstood.TheVariants as why
-use Rattle.script.specs.declared.transcript.Reply.TheVariants.{Answered, SettingRefused, Permitted, RangeRefused, NotUnderstood}
+
+-- What a line says: a reply that needs no room, a call, or a question for a range.
+pub data Said : Type 0 where
+  Replied : Reply → Said
+  Call : CallStatement → Said
+  Range : RangeQuestion → Said
+
+-- What is told of what a line says in code.
+abbrev pub said_told : CodeSaid → Said
+said_told (code.Replied r) = Replied (reply_told r)
+said_told (code.Call c) = Call c
+said_told (code.Range q) = Range q
+
+-- A line that is not passed over, with its number, counted from 1.
+pub record Line : Type 0 where
+  pub number : ℕ
+  pub said : Said
+
+abbrev pub line_told : CodeLine → Line
+line_told l = record { number = l.number; said = said_told l.said }
 
 -- A call or a question, if there is a room for it; else what the room is wanting.
 abbrev pub in_room : Result RoomTold Wanting → Said → Said
 in_room (Ok room) s = s
-in_room (Err e) s = said.Replied (NotUnderstood (why.Wanting e))
+in_room (Err e) s = Replied (NotUnderstood (why.Wanting e))
 
 -- What a statement says, by what was told before it. A setting is answered at once.
 abbrev pub said_by : Told → Statement → Said
-said_by t (Setting x) = said.Replied (setting_reply (setting_answer t x))
-said_by t (Call c) = in_room (room_in t) (said.Call c)
-said_by t (Range q) = in_room (room_in t) (said.Range q)
+said_by t (statement.Setting x) = Replied (setting_reply (setting_answer t x))
+said_by t (statement.Call c) = in_room (room_in t) (Call c)
+said_by t (statement.Range q) = in_room (room_in t) (Range q)
 
 -- What is told behind it. A call or a question makes the room, if nothing is wanting.
 abbrev pub told_behind : Told → Statement → Told
-told_behind t (Setting x) = told_after t x
-told_behind t (Call c) = told_after_call t
-told_behind t (Range q) = told_after_call t
+told_behind t (statement.Setting x) = told_after t x
+told_behind t (statement.Call c) = told_after_call t
+told_behind t (statement.Range q) = told_after_call t
 
 -- What a line says, if it is not passed over.
 abbrev pub said_where : Told → Result (Option Statement) Misread → Option Said
 said_where t (Ok None) = None
 said_where t (Ok (Some x)) = Some (said_by t x)
-said_where t (Err e) = Some (said.Replied (NotUnderstood (why.Misread e)))
+said_where t (Err e) = Some (Replied (NotUnderstood (why.Misread e)))
 
 abbrev pub said_in : Told → List ℕ → Option Said
 said_in t line = said_where t (statement_in line)
@@ -72,13 +93,13 @@ room_of (Err e) = None
 
 -- A line is understood if it is answered otherwise than by why it is not.
 abbrev pub is_understood : Said → Bool
-is_understood (said.Replied (NotUnderstood e)) = false
-is_understood (said.Replied (Answered a)) = true
-is_understood (said.Replied (SettingRefused e)) = true
-is_understood (said.Replied (Permitted r)) = true
-is_understood (said.Replied (RangeRefused e)) = true
-is_understood (said.Call c) = true
-is_understood (said.Range q) = true
+is_understood (Replied (NotUnderstood e)) = false
+is_understood (Replied (Answered a)) = true
+is_understood (Replied (SettingRefused e)) = true
+is_understood (Replied (Permitted r)) = true
+is_understood (Replied (RangeRefused e)) = true
+is_understood (Call c) = true
+is_understood (Range q) = true
 
 -- The lines of a script, all of them.
 abbrev pub script_lines : List ℕ → List Line

@@ -1,6 +1,7 @@
 // The calls of a script.
-ghost use Rattle.std.specs.Prelude.{◌≡◌, IfOk};
+ghost use Rattle.std.specs.Prelude.{◌≡◌, IfOk, map};
 ghost use Rattle.day.specs.Calls.{calls_in};
+ghost use Rattle.day.specs.Lines.{line_told};
 
 use crate::lines::{Line, Said};
 use market::cube::CubeTick;
@@ -13,7 +14,7 @@ pub(crate) fn calls_in(
     lines: &[Line],
     room: u32,
 ) -> Result<Vec<Call<CubeTick>>, AllocError>
-    ensures { IfOk result (λ calls. calls.items ≡ calls_in room lines.now) }
+    ensures { IfOk result (λ calls. calls.items ≡ calls_in room (map line_told lines.now)) }
 {
     let mut calls = Vec::new(heap);
     for line in lines {

@@ -3,7 +3,7 @@ ghost use Rattle.std.specs.Prelude.{◌≡◌, ◌++◌, IfOk, OnOk, [], map};
 ghost use Rattle.std.specs.Option.{option_map};
 ghost use Rattle.std.specs.Str.Lines.{lines};
 ghost use Rattle.script.specs.Setups.{told_of, nothing_told, room_in, room_told};
-ghost use Rattle.day.specs.Lines.{in_room, said_by, told_behind, said_in, told_behind_line, numbered, lines_said, told_behind_lines, room_of};
+ghost use Rattle.day.specs.Lines.{line_told, said_told, in_room, said_by, told_behind, said_in, told_behind_line, numbered, lines_said, told_behind_lines, room_of};
 ghost use Rattle.script.specs.Setups.{told_after_call};
 
 use script::read::read_statement;
@@ -36,7 +36,7 @@ pub struct Script {
 
 // A call or a question, if there is a room for it.
 fn in_room(setup: &mut Setup, said: Said) -> Said
-    ensures said { result ≡ in_room (room_in (told_of setup.old)) said }
+    ensures said { said_told result ≡ in_room (room_in (told_of setup.old)) (said_told said) }
     ensures told { told_of setup.new ≡ told_after_call (told_of setup.old) }
 {
     match setup.room() {
@@ -46,7 +46,7 @@ fn in_room(setup: &mut Setup, said: Said) -> Said
 }
 
 fn said_by(setup: &mut Setup, statement: Statement) -> Said
-    ensures said { result ≡ said_by (told_of setup.old) statement }
+    ensures said { said_told result ≡ said_by (told_of setup.old) statement }
     ensures told { told_of setup.new ≡ told_behind (told_of setup.old) statement }
 {
     match statement {
@@ -58,7 +58,7 @@ fn said_by(setup: &mut Setup, statement: Statement) -> Said
 
 // What a line says; nothing if it is passed over.
 fn said_in(setup: &mut Setup, line: &str) -> Option<Said>
-    ensures said { result ≡ said_in (told_of setup.old) line.now }
+    ensures said { option_map said_told result ≡ said_in (told_of setup.old) line.now }
     ensures told { told_of setup.new ≡ told_behind_line (told_of setup.old) line.now }
 {
     match read_statement(line) {
@@ -74,7 +74,7 @@ fn read_line(
     number: usize,
     line: &str,
 ) -> Result<(), AllocError>
-    ensures lines { OnOk result (lines.new.items ≡ lines.old.items ++ numbered number (said_in (told_of setup.old) line.now)) }
+    ensures lines { OnOk result (map line_told lines.new.items ≡ map line_told lines.old.items ++ numbered number (said_in (told_of setup.old) line.now)) }
     ensures told { OnOk result (told_of setup.new ≡ told_behind_line (told_of setup.old) line.now) }
 {
     if let Some(said) = said_in(setup, line) {
@@ -86,7 +86,7 @@ fn read_line(
 impl Script {
     // Reads a script, line by line.
     pub fn read(heap: Global, text: &str) -> Result<Script, AllocError>
-        ensures lines { IfOk result (λ s. s.lines.items ≡ lines_said nothing_told 1 (lines text.now)) }
+        ensures lines { IfOk result (λ s. map line_told s.lines.items ≡ lines_said nothing_told 1 (lines text.now)) }
         ensures room { IfOk result (λ s. option_map room_told s.room ≡ room_of (room_in (told_behind_lines nothing_told (lines text.now)))) }
     {
         let all: Vec<&str> = text.lines().collect(heap)?;

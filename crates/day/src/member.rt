@@ -1,6 +1,8 @@
 // What a member may see of a transcript.
-ghost use Rattle.std.specs.Prelude.{◌≡◌, ◌++◌, IfOk, OnOk, string_bytes};
+ghost use Rattle.std.specs.Prelude.{◌≡◌, ◌++◌, IfOk, OnOk, map, string_bytes};
+ghost use Rattle.script.specs.Told.{answer_told};
 ghost use Rattle.day.specs.ForMember.{line_for, answers_behind, text_for};
+ghost use Rattle.day.specs.Lines.{line_told, said_told};
 
 use crate::lines::{Line, Said};
 use market::cube::CubeFault;
@@ -15,8 +17,8 @@ fn write_line<'a>(
     answers: &'a [Answer<CubeFault>],
     member: u8,
 ) -> Result<&'a [Answer<CubeFault>], AllocError>
-    ensures text { OnOk result (string_bytes text.new ≡ string_bytes text.old ++ line_for member line.now.number line.now.said answers.now) }
-    ensures behind { IfOk result (λ rest. rest.now ≡ answers_behind line.now.said answers.now) }
+    ensures text { OnOk result (string_bytes text.new ≡ string_bytes text.old ++ line_for member line.now.number (said_told line.now.said) (map answer_told answers.now)) }
+    ensures behind { IfOk result (λ rest. map answer_told rest.now ≡ answers_behind (said_told line.now.said) (map answer_told answers.now)) }
 {
     match (&line.said, answers) {
         (Said::Call(call), [answer, rest @ ..]) => {
@@ -38,7 +40,7 @@ pub(crate) fn write_lines(
     answers: &[Answer<CubeFault>],
     member: u8,
 ) -> Result<(), AllocError>
-    ensures { OnOk result (string_bytes text.new ≡ string_bytes text.old ++ text_for member lines.now answers.now) }
+    ensures { OnOk result (string_bytes text.new ≡ string_bytes text.old ++ text_for member (map line_told lines.now) (map answer_told answers.now)) }
 {
     let mut answers = answers;
     for line in lines {

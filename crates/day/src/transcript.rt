@@ -1,8 +1,8 @@
 // The transcript of a script: the text of its answers.
-ghost use Rattle.std.specs.Prelude.{◌≡◌, IfOk, string_bytes};
+ghost use Rattle.std.specs.Prelude.{◌≡◌, IfOk, map, string_bytes};
 ghost use Rattle.day.specs.ForMember.{TextFor, TranscriptFor};
 ghost use Rattle.day.specs.WholeText.{WholeTranscript};
-ghost use Rattle.day.specs.Lines.{is_understood, is_all_understood, script_lines};
+ghost use Rattle.day.specs.Lines.{line_told, said_told, is_understood, is_all_understood, script_lines};
 
 use crate::calls::calls_in;
 use crate::lines::{Line, Said, Script};
@@ -21,13 +21,13 @@ pub struct Transcript {
 }
 
 fn is_understood(line: &Line) -> bool
-    ensures { result ≡ is_understood line.now.said }
+    ensures { result ≡ is_understood (said_told line.now.said) }
 {
     !matches!(&line.said, Said::Replied(Reply::NotUnderstood(_)))
 }
 
 fn is_all_understood(lines: &[Line]) -> bool
-    ensures { result ≡ is_all_understood lines.now }
+    ensures { result ≡ is_all_understood (map line_told lines.now) }
 {
     lines.iter().all(is_understood)
 }
@@ -39,7 +39,7 @@ fn text_for(
     terms: RoomTerms,
     member: u8,
 ) -> Result<String, AllocError>
-    ensures { IfOk result (λ text. TextFor member terms lines.now (string_bytes text)) }
+    ensures { IfOk result (λ text. TextFor member terms (map line_told lines.now) (string_bytes text)) }
 {
     let calls = calls_in(heap, lines, terms.number)?;
     let Outcome { answers, closed: _ } = carry_out(heap, terms, calls)?;

@@ -1,12 +1,14 @@
 // A whole transcript.
-ghost use Rattle.std.specs.Prelude.{◌≡◌, ◌++◌, [], ◌∷◌, IfOk, OnOk, string_bytes};
+ghost use Rattle.std.specs.Prelude.{◌≡◌, ◌++◌, [], ◌∷◌, IfOk, OnOk, map, string_bytes};
 ghost use Rattle.std.specs.Option.{option_map};
 ghost use Rattle.market.specs.Cube.{cube_position, cube_meaning};
 ghost use Rattle.market.specs.Range.{permitted};
-ghost use Rattle.script.specs.Replies.{range_reply};
+ghost use Rattle.script.specs.Replies.{range_reply, reply_told};
+ghost use Rattle.script.specs.Told.{answer_told};
 ghost use Rattle.session.specs.Desks.{closed_told, listed_told};
 ghost use Rattle.session.specs.Sessions.{given};
 ghost use Rattle.day.specs.ForMember.{answers_behind};
+ghost use Rattle.day.specs.Lines.{line_told, said_told};
 ghost use Rattle.day.specs.WholeText.{market_after, market_behind, whole_line, whole_lines, end_lines, WholeTextOf, reply_line, reply_lines};
 
 use crate::calls::calls_in;
@@ -25,7 +27,7 @@ use std::alloc::{AllocError, Global};
 
 // The transcript has a market of its own, for questions about ranges. It takes each tick that the room accepted.
 fn take_tick(market: &mut CubeMarket, call: &CallStatement, answer: &Answer<CubeFault>)
-    ensures { cube_position market.new ≡ market_after (cube_position market.old) call.now answer.now }
+    ensures { cube_position market.new ≡ market_after (cube_position market.old) call.now (answer_told answer.now) }
 {
     if let (CallStatement::Tick { time: _, tick }, Answer::Accepted) = (call, answer) {
         let _ = market.tick(same_tick(tick));
@@ -33,7 +35,7 @@ fn take_tick(market: &mut CubeMarket, call: &CallStatement, answer: &Answer<Cube
 }
 
 fn range_in(market: &CubeMarket, question: RangeQuestion) -> Reply
-    ensures { result ≡ range_reply (permitted question.side question.limit (cube_meaning.shows (cube_position market.now))) }
+    ensures { reply_told result ≡ range_reply (permitted question.side question.limit (cube_meaning.shows (cube_position market.now))) }
 {
     let RangeQuestion { side, limit } = question;
     Reply::to_range(permitted_range(market, side, limit))
@@ -46,9 +48,9 @@ fn write_line<'a>(
     line: &Line,
     answers: &'a [Answer<CubeFault>],
 ) -> Result<&'a [Answer<CubeFault>], AllocError>
-    ensures text { OnOk result (string_bytes text.new ≡ string_bytes text.old ++ whole_line (cube_position market.old) line.now.number line.now.said answers.now) }
-    ensures market { OnOk result (cube_position market.new ≡ market_behind (cube_position market.old) line.now.said answers.now) }
-    ensures behind { IfOk result (λ rest. rest.now ≡ answers_behind line.now.said answers.now) }
+    ensures text { OnOk result (string_bytes text.new ≡ string_bytes text.old ++ whole_line (cube_position market.old) line.now.number (said_told line.now.said) (map answer_told answers.now)) }
+    ensures market { OnOk result (cube_position market.new ≡ market_behind (cube_position market.old) (said_told line.now.said) (map answer_told answers.now)) }
+    ensures behind { IfOk result (λ rest. map answer_told rest.now ≡ answers_behind (said_told line.now.said) (map answer_told answers.now)) }
 {
     let number = line.number;
     match (&line.said, answers) {
@@ -75,7 +77,7 @@ fn write_lines(
     lines: &[Line],
     answers: &[Answer<CubeFault>],
 ) -> Result<(), AllocError>
-    ensures { OnOk result (string_bytes text.new ≡ string_bytes text.old ++ whole_lines (cube_position market) lines.now answers.now) }
+    ensures { OnOk result (string_bytes text.new ≡ string_bytes text.old ++ whole_lines (cube_position market) (map line_told lines.now) (map answer_told answers.now)) }
 {
     let mut market = market;
     let mut answers = answers;
@@ -114,7 +116,7 @@ pub(crate) fn whole_text(
     lines: &[Line],
     terms: RoomTerms,
 ) -> Result<String, AllocError>
-    ensures { IfOk result (λ text. WholeTextOf terms lines.now (string_bytes text)) }
+    ensures { IfOk result (λ text. WholeTextOf terms (map line_told lines.now) (string_bytes text)) }
 {
     let calls = calls_in(heap, lines, terms.number)?;
     let Outcome { answers, closed } = carry_out(heap, terms, calls)?;
@@ -126,7 +128,7 @@ pub(crate) fn whole_text(
 
 // Writes a line that is answered at once.
 fn write_reply(text: &mut String, line: &Line) -> Result<(), AllocError>
-    ensures { OnOk result (string_bytes text.new ≡ string_bytes text.old ++ reply_line line.now.number line.now.said) }
+    ensures { OnOk result (string_bytes text.new ≡ string_bytes text.old ++ reply_line line.now.number (said_told line.now.said)) }
 {
     if let Said::Replied(reply) = &line.said {
         let number = line.number;
@@ -137,7 +139,7 @@ fn write_reply(text: &mut String, line: &Line) -> Result<(), AllocError>
 
 // The text of lines for which there is no room.
 pub(crate) fn replies_text(heap: Global, lines: &[Line]) -> Result<String, AllocError>
-    ensures { IfOk result (λ text. string_bytes text ≡ reply_lines lines.now) }
+    ensures { IfOk result (λ text. string_bytes text ≡ reply_lines (map line_told lines.now)) }
 {
     let mut text = String::new(heap);
     for line in lines {

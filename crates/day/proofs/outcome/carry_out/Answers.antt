@@ -2,7 +2,6 @@
 use Rattle.std.proofs.Common.{◌∙◌, List, [], ap, map, refl, subst, sym, vec_items}
 use Rattle.market.specs.Cube.{CubePosition, cube_meaning, cube_position, cube_start}
 use Rattle.market.specs.declared.better_of.Half.{Half}
-use Rattle.market.specs.declared.fault.Fault.{Fault}
 use Rattle.market.specs.declared.legs.leg.LegTick.{LegTick}
 use Rattle.market.specs.declared.quote.Quote.{Quote}
 use Rattle.market.specs.Legs.{legs_of}
@@ -11,10 +10,10 @@ use Rattle.room.specs.Rooms.{state_of, world_of}
 use Rattle.script.specs.Chosen.{chosen_ahead, chosen_meaning}
 use Rattle.script.specs.declared.chosen.ChosenInterval.{ChosenInterval}
 use Rattle.script.specs.declared.chosen.ChosenRanking.{ChosenRanking}
+use Rattle.script.specs.Told.{CubeFaultTold, answer_told}
 use Rattle.session.specs.Closings.{with_close}
 use Rattle.session.specs.Desks.{told_at_close, after_close}
 use Rattle.session.specs.Promises.{Carried, WholePromise}
-use Rattle.session.specs.Told.{told}
 use Rattle.day.specs.CarriedOut.{world_in}
 use Rattle.day.proofs.outcome.carry_out.Goals as goal
 
@@ -26,10 +25,10 @@ returns-in-Ok c =
     let did = c.in-Ok.ensures in
     let done = c.in-Ok.field-0 in
     let room = state_of cube_position (λ (s : ChosenInterval). s) done.desk.session.room in
-    let at : CubePosition → List ClaimNumbers → Carried CubePosition (Half Quote LegTick) (Half Fault Fault) ChosenInterval = λ p claims. record {
+    let at : CubePosition → List ClaimNumbers → Carried CubePosition (Half Quote LegTick) CubeFaultTold ChosenInterval = λ p claims. record {
       start = record { number = terms.number; market = p; source = terms.source; purse = [] };
       calls = c.args.calls.items;
-      answers = map told (vec_items done.answers);
+      answers = map answer_told (vec_items done.answers);
       room = room;
       claims = claims;
     } in

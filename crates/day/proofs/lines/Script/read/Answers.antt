@@ -6,8 +6,7 @@ use Rattle.std.proofs.lemmas.Iterator.Consumers.{map_from_collect}
 use Rattle.std.proofs.lemmas.Iterator.Splits.{YieldsList-from_lines}
 use Rattle.std.proofs.lemmas.List.{drop_all, append-nil}
 use Rattle.script.specs.Setups.{Told, told_of, nothing_told, room_in, room_told}
-use Rattle.day.specs.declared.lines.Line.{Line}
-use Rattle.day.specs.Lines.{lines_said, told_behind_lines}
+use Rattle.day.specs.Lines.{Line, line_told, lines_said, told_behind_lines}
 use Rattle.day.proofs.LinesRead.{one_read, one_told, room_told_made}
 use Rattle.day.proofs.lines.Script.read.Goals as goal
 
@@ -17,7 +16,7 @@ loop-before-init c =
     let collected = map_from_collect c.collect.result c.collect.ensures.ran (YieldsList-from_lines c.args.text.now c.lines.ensures.rest) in
     let held = subst (λ r. IfOk r (λ w. map (λ x. x.now) (vec_items w) ≡ lines c.args.text.now)) c.in_ok-all.was collected in
     let all : map (λ x. x.now) xs ≡ lines c.args.text.now = ap (map (λ x. x.now)) c.deref-line-items.ensures.value ∙ held in (
-      ap (λ (x : List Line). x ++ lines_said (told_of c.new-setup.result) 1 (map (λ x. x.now) xs)) c.new-lines.ensures.items
+      ap (λ (x : List Line). x ++ lines_said (told_of c.new-setup.result) 1 (map (λ x. x.now) xs)) (ap (map line_told) c.new-lines.ensures.items)
           ∙ ap (λ (t : Told). lines_said t 1 (map (λ x. x.now) xs)) c.new-setup.ensures
           ∙ ap (lines_said nothing_told 1) all,
       ap (λ (t : Told). told_behind_lines t (map (λ x. x.now) xs)) c.new-setup.ensures ∙ ap (told_behind_lines nothing_told) all,
@@ -33,7 +32,7 @@ loop-before-preserved c =
     let did = c.in_ok-read_line.ensures in
     let t = told_of c.loop-before.setup in
     let u = told_of c.read_line.new.setup in (
-      one_read (λ x. x.now) xs i (record { ref_ptr = (0, 0); now = [] }) c.loop-before.lines.items c.read_line.new.lines.items t u inside did.lines did.told
+      one_read (λ x. x.now) xs i (record { ref_ptr = (0, 0); now = [] }) (map line_told c.loop-before.lines.items) (map line_told c.read_line.new.lines.items) t u inside did.lines did.told
           ∙ c.loop-before.invariant.0,
       one_told (λ x. x.now) xs i (record { ref_ptr = (0, 0); now = [] }) t u inside did.told ∙ c.loop-before.invariant.1,
     )
@@ -44,7 +43,7 @@ returns-clause-lines c =
     let end = c.loop-before.auto.before-end in
     let none = drop_all c.loop-before.before c.deref-line-items.result.now (omega arith) in
     sym (append-nil _)
-    ∙ ap (λ left. c.loop-before.lines.items ++ lines_said (told_of c.loop-before.setup) (c.loop-before.before + 1) (map (λ x. x.now) left)) (sym none)
+    ∙ ap (λ left. map line_told c.loop-before.lines.items ++ lines_said (told_of c.loop-before.setup) (c.loop-before.before + 1) (map (λ x. x.now) left)) (sym none)
     ∙ c.loop-before.invariant.0
 
 pub returns-clause-room : goal.returns-clause-room
