@@ -1,5 +1,5 @@
 -- The rules of markets and of the range that they permit an order, a file a topic. LegSteps are words for the code's inner
--- steps; LegsBounded and BetterOfMarketLemmas have lemmas.
+-- steps; LegsBounded, BetterOfMarketLemmas and FaultLemmas have lemmas.
 pub mod Prices
 pub mod Turned
 pub mod OneToNine
@@ -17,5 +17,6 @@ pub mod History
 pub mod Range
 pub mod RangeLaws
 pub mod BetterOfMarketLemmas
+pub mod FaultLemmas
 pub mod LegsBounded
 pub mod Names

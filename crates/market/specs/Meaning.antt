@@ -26,3 +26,7 @@ Bounded q = (showable q.bid ≡ true) × (showable q.offer ≡ true)
 -- A refused tick leaves the position.
 abbrev pub RefusedLeaves : {P T F : Type 0} → Meaning P T F → Type 0
 RefusedLeaves {P} {T} m = (p : P) (t : T) → is_ok (m.answer p t) ≡ false → m.next p t ≡ p
+
+-- Of two values of which the same is told, nothing tells them apart: they are the same.
+abbrev pub Apart : {E F : Type 0} → (E → F) → Type 0
+Apart {E} f = (d e : E) → f d ≡ f e → d ≡ e

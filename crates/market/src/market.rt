@@ -1,6 +1,6 @@
 // A market: what it shows when asked, and how it takes a tick, its own kind of message.
 ghost use Rattle.std.specs.Prelude.{◌≡◌};
-ghost use Rattle.market.specs.Meaning.{Meaning, Bounded, RefusedLeaves, told_by};
+ghost use Rattle.market.specs.Meaning.{Meaning, Bounded, RefusedLeaves, Apart, told_by};
 
 use crate::quote::Quote;
 
@@ -35,4 +35,7 @@ pub trait Market {
 
     // A refused tick leaves the position.
     ghost refused: { RefusedLeaves meaning };
+
+    // All that a fault holds is told: faults of which the same is told are the same.
+    ghost told_apart: { Apart told };
 }

@@ -6,6 +6,7 @@ ghost use Rattle.market.specs.Meaning.{told_by};
 ghost use Rattle.market.specs.declared.better_of.Half.{Half};
 ghost use Rattle.market.specs.declared.better_of.Half.TheVariants.{Left, Right};
 ghost use Rattle.market.specs.BetterOfMarketLemmas.{same_ok};
+ghost use Rattle.market.specs.FaultLemmas.{halves_apart};
 
 use super::{BetterOf, Half, InLeft, InRight};
 use crate::market::Market;
@@ -68,6 +69,8 @@ impl<X: Market, Y: Market> Market for BetterOf<X, Y> {
           | Left s ↦ λ h. ap (λ x. (x, p.1)) (X.Market.refused p.0 s (sym (same_ok Left (X.Market.meaning.answer p.0 s)) ∙ h))
           | Right s ↦ λ h. ap (λ x. (p.0, x)) (Y.Market.refused p.1 s (sym (same_ok Right (Y.Market.meaning.answer p.1 s)) ∙ h))
         ] };
+
+    ghost told_apart = { halves_apart X.Market.told Y.Market.told X.Market.told_apart Y.Market.told_apart };
 
     fn shown(&self) -> Quote
         ensures answer { result ≡ better_quote (X.Market.meaning.shows (X.Market.position self.now.left)) (Y.Market.meaning.shows (Y.Market.position self.now.right)) }

@@ -56,6 +56,8 @@ impl<M: Market> Market for Improve<M> {
 
     ghost refused = { Prim.search rules };
 
+    ghost told_apart = { M.Market.told_apart };
+
     fn shown(&self) -> Quote
         ensures answer { result ≡ improved_quote self.now.step (M.Market.meaning.shows (M.Market.position self.now.inner)) }
         ensures leaves { self.exit.now ≡ self.entry.now }

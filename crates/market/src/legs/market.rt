@@ -1,6 +1,7 @@
 // Legs as a market.
 ghost use Rattle.std.specs.Prelude.{◌≡◌, ◌≤◌, true, List, length};
 ghost use Rattle.std.specs.Option.{option_map};
+ghost use Rattle.market.specs.FaultLemmas.{faults_apart};
 ghost use Rattle.market.specs.Faults.{FaultTold, fault_told};
 ghost use Rattle.market.specs.LegInvariant.{leg_ok, optional_leg_ok, leg_price_ok, leg_quote_ok};
 ghost use Rattle.market.specs.Legs.{legs_of, legs_quote, legs_answer, legs_next, legs_meaning, quoted, quote_leg, tick_answer, legs_sum};
@@ -106,6 +107,8 @@ impl Market for Legs {
     ) };
 
     ghost refused = { Prim.search rules };
+
+    ghost told_apart = { faults_apart };
 
     fn shown(&self) -> Quote
         ensures answer { result ≡ legs_quote (legs_of self.now) }

@@ -1,5 +1,6 @@
 // A touch as a market.
 ghost use Rattle.std.specs.Prelude.{◌≡◌};
+ghost use Rattle.market.specs.FaultLemmas.{faults_apart};
 ghost use Rattle.market.specs.Faults.{FaultTold, fault_told};
 ghost use Rattle.market.specs.Meaning.{nothing_shown, told_by};
 ghost use Rattle.market.specs.Prices.{in_limits, uncrossed};
@@ -79,6 +80,8 @@ impl Market for Touch {
     ghost bounded = { Prim.search rules };
 
     ghost refused = { Prim.search rules };
+
+    ghost told_apart = { faults_apart };
 
     fn shown(&self) -> Quote
         ensures answer { result ≡ touch_quote self.now }
