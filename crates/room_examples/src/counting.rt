@@ -5,7 +5,7 @@ ghost use Rattle.std.proofs.Common.{rules, arith};
 
 use interval::source::{IntervalSource, LEAST};
 
-// It may not be let go: whoever puts one into a room takes it out again.
+/// It may not be let go: whoever puts one into a room takes it out again.
 pub struct CountingSource {
     drawn: u32,
 }
@@ -17,7 +17,7 @@ impl CountingSource {
         CountingSource { drawn: 0 }
     }
 
-    // How many intervals were drawn; that is all there was to it.
+    /// How many intervals were drawn; that is all there was to it.
     pub fn into_drawn(self) -> u32
         ensures { result ≡ self.drawn }
     {

@@ -19,7 +19,7 @@ use room::room::Room;
 use session::laws::calls_in_turn_are_a_run;
 use std::io;
 
-// A room, and what a halt and then a look were answered.
+/// A room, and what a halt and then a look were answered.
 #[derive(Drop)]
 pub struct HaltedRoom<M, R, S, F> {
     pub room: Room<M, R, S>,
@@ -27,7 +27,7 @@ pub struct HaltedRoom<M, R, S, F> {
     pub view: View,
 }
 
-// Makes a room, halts it and looks. The answers are those of a run of these two calls, and its laws hold.
+/// Makes a room, halts it and looks. The answers are those of a run of these two calls, and its laws hold.
 pub fn halted_room<M: Market, R: Ranking, S: IntervalSource>(
     market: M,
     ranking: R,

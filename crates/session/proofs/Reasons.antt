@@ -44,7 +44,7 @@ use Rattle.session.specs.declared.calls.Call.{Call}
 use Rattle.session.specs.declared.calls.Call.TheVariants.{Open, Respond, Change, Withdraw, Tick, Halt, Resume, Clock, Look, Collect}
 use Rattle.session.specs.History.{Exchange, Story, deadline_of, is_plain_kind, opened_number, told_terms, going_on, not_due, clock_time, time_or_first, time_then, halted_then, openings, market_at, shown_to, story_of, open_story, waiting_then, history_of}
 use Rattle.session.specs.Inputs.{first_that_holds, input_reasons, input_reason}
-use Rattle.session.specs.Reasons.{refused_number, fault_told, in_kind, on_one_side, standing_of, price_reasons, by_open, above_initiating, used_up, respond_reasons, sealed_reasons, change_reasons, withdraw_reasons, terms_kept, terms_due, fault_in, found_open, one_waits, market_fault, state_reasons, reasons, AnsweredWithReason, AnswersHaveTheirReasons, AnswersHaveTheirReasonsInRuns}
+use Rattle.session.specs.Reasons.{refused_number, fault_in_answer, in_kind, on_one_side, standing_of, price_reasons, by_open, above_initiating, used_up, respond_reasons, sealed_reasons, change_reasons, withdraw_reasons, terms_kept, terms_due, fault_in, found_open, one_waits, market_fault, state_reasons, reasons, AnsweredWithReason, AnswersHaveTheirReasons, AnswersHaveTheirReasonsInRuns}
 use Rattle.session.specs.Runs.{Answer, Opened, Stored, Accepted, Collected, Refused, Moment, answered, given_time, input_refusal, step, moment}
 use Rattle.session.proofs.Choices.{cond_through}
 use Rattle.session.proofs.Ending.AsTold.{linked}
@@ -165,7 +165,7 @@ told_outcome F (Ok x) s effect answer = refl
 told_outcome F (Err n) s effect answer = refl
 
 -- No check holds a fault.
-no_fault : (F : Type 0) {S X Y : Type 0} (f : Y → Answer F) (y : Result X ℕ) (s : S) (effect : X → S) (answer : X → Y) → ((z : Y) → fault_told (f z) ≡ None) → fault_told (answered f (outcome y s effect answer).1) ≡ None
+no_fault : (F : Type 0) {S X Y : Type 0} (f : Y → Answer F) (y : Result X ℕ) (s : S) (effect : X → S) (answer : X → Y) → ((z : Y) → fault_in_answer (f z) ≡ None) → fault_in_answer (answered f (outcome y s effect answer).1) ≡ None
 no_fault F f (Ok x) s effect answer h = h (answer x)
 no_fault F f (Err n) s effect answer h = refl
 
@@ -505,16 +505,16 @@ module _ {P T F Q : Type 0} (w : World P T F Q) (number : ℕ) (p : P) (q : Q) (
 
     -- The market's fault.
     timed_fault : {Y : Type 0} (c : Call T) (f : Y → Answer F) (k : Option ℕ) (t : ℕ) (business : RoomState P Q → RoomState P Q × Result Y (RefusalTold F))
-        → input_refusal c ≡ k → (k ≡ None → fault_told (answered f (business (clocked s t)).1) ≡ market_fault w p q past c)
-        → fault_told (answered f (timed k s t business).1) ≡ cond (is_some (input_reason c)) None (market_fault w p q past c)
+        → input_refusal c ≡ k → (k ≡ None → fault_in_answer (answered f (business (clocked s t)).1) ≡ market_fault w p q past c)
+        → fault_in_answer (answered f (timed k s t business).1) ≡ cond (is_some (input_reason c)) None (market_fault w p q past c)
     timed_fault c f None t business e then = then refl ∙ ap (λ o. cond (is_some o) None (market_fault w p q past c)) (sym e ∙ input_reason_is c)
     timed_fault c f (Some n) t business e then = ap (λ o. cond (is_some o) None (market_fault w p q past c)) (sym e ∙ input_reason_is c)
 
-    ticking_fault : (u : RoomState P Q) (y : Result (Unit {0}) F) (x : T) → fault_told (answered {F = F} (λ _. Accepted) (ticking_by w y u x).1) ≡ fault_in y
+    ticking_fault : (u : RoomState P Q) (y : Result (Unit {0}) F) (x : T) → fault_in_answer (answered {F = F} (λ _. Accepted) (ticking_by w y u x).1) ≡ fault_in y
     ticking_fault u (Ok k) x = refl
     ticking_fault u (Err f) x = refl
 
-    fault_is : (c : Call T) → fault_told (step w s c).1 ≡ cond (is_some (input_reason c)) None (market_fault w p q past c)
+    fault_is : (c : Call T) → fault_in_answer (step w s c).1 ≡ cond (is_some (input_reason c)) None (market_fault w p q past c)
     fault_is (Open x) =
         timed_fault (Open x) Opened (open_checks x) x.time (λ u. opening w u x.order) refl
         (λ k. let u = clocked s x.time in no_fault F Opened (opening_range w u x.order) u (opened_with w u x.order) (λ _. record { room = u.number; auction = u.opened + 1 }) (λ _. refl))

@@ -27,9 +27,9 @@ refused_number (Refused e) = Some e.number
 refused_number _ = None
 
 -- The market's fault that a refusal holds.
-abbrev pub fault_told : {F : Type 0} → Answer F → Option F
-fault_told (Refused e) = e.fault
-fault_told _ = None
+abbrev pub fault_in_answer : {F : Type 0} → Answer F → Option F
+fault_in_answer (Refused e) = e.fault
+fault_in_answer _ = None
 
 -- An answer is a refusal, or of the kind that the call has: a claim, a stored price and size, acceptance, a view, rows.
 abbrev pub in_kind : {T F : Type 0} → Call T → Answer F → Bool
@@ -177,7 +177,7 @@ module _ {P T F Q : Type 0} (w : World P T F Q) (number : ℕ) (p : P) (q : Q) (
     -- The stored price and size that are told.
     pub terms : (t : StoredTerms) → x.answer ≡ Stored t → terms_due (found_open w p q past x.call) x.call ≡ Some t
     -- A tick that passes its input check is told the market's fault, if it has one; no other call is told one.
-    pub fault : fault_told x.answer ≡ cond (is_some (input_reason x.call)) None (market_fault w p q past x.call)
+    pub fault : fault_in_answer x.answer ≡ cond (is_some (input_reason x.call)) None (market_fault w p q past x.call)
 
 -- Each answer of a run has its reason in the calls and answers before it, and what is told follows from them.
 abbrev pub AnswersHaveTheirReasons : {P T F Q : Type 0} → World P T F Q → ℕ → P → Q → List (Moment P T F Q) → Moment P T F Q → Type 0
