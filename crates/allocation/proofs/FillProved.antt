@@ -1,5 +1,5 @@
 -- What the code writes is the fill list of the auction, and the fill list keeps its laws.
-use Rattle.std.proofs.Common.{◌≡◌, ℕ, ◌+◌, ◌<◌, ◌≤◌, Bool, true, not, ◌&&◌, leb, List, [], ◌∷◌, ◌++◌, map, length, take, drop, ℤ, ◌≤ℤ◌, Some, sym, refl, ap, ◌∙◌, subst, arith, length-append}
+use Rattle.std.proofs.Common.{◌≡◌, ℕ, ◌+◌, ◌*◌, ◌/◌, ◌<◌, ◌≤◌, max, Bool, true, false, cond, not, ◌&&◌, eqb, leb, List, [], ◌∷◌, ◌++◌, map, length, take, drop, ℤ, ◌≤ℤ◌, Some, sym, refl, ap, ◌∙◌, subst, arith, length-append}
 use borrow.Author.Differences.{ints}
 use lib.Signed.{le_z}
 use Rattle.std.proofs.lemmas.List.{take_at, drop_at, length-map}
@@ -25,7 +25,7 @@ use Rattle.allocation.specs.FillLaws.{Told, response_told, FillLaws}
 use Rattle.allocation.specs.FillList.{fills, fill_list, contra_terms, order_levels}
 use Rattle.allocation.specs.Levels.{Level, levels, contra_level, flat}
 use Rattle.allocation.specs.LevelSteps.{Sized, Sound}
-use Rattle.allocation.specs.OnlyRows.{LawfulRows}
+use Rattle.allocation.specs.OnlyRows.{LawfulRows, share_guaranteed}
 use Rattle.allocation.specs.OnlyShares.{OnlyTheseShares}
 use Rattle.allocation.specs.Rankings.{by_key}
 use Rattle.allocation.specs.RowLaws.{RowLaws}
@@ -197,6 +197,14 @@ rows_in_order ahead ranks v h =
     rows_stand v.order.side ahead (told_of v) (contra_terms v.order v.initiating (length v.stood)) v.floor shape.low shape.high ls v.order.size 0 shape.holds shape.ascending shape.stand
     (all_both _ _ (Ranked v.order.side ahead (told_of v)) (λ l o t. (o, t)) ls ordered told)
 
+-- the guaranteed share, by the split and by the laws
+share_by : (size : ℕ) (b : Bool) → max 1 (size * cond b 50 40 / 100) ≡ max 1 (cond b (size * 50 / 100) (size * 40 / 100))
+share_by size true = refl
+share_by size false = refl
+
+share_is : (size stood : ℕ) → guaranteed size stood ≡ share_guaranteed size stood
+share_is size stood = share_by size (eqb stood 1)
+
 -- the fill list of an auction keeps all laws, and no other rows do
 pub fills_are_lawful : (ahead : Key → Key → Bool) → Ranks ahead → (v : AuctionValues) → Fillable v
     → LawfulRows v.order.side v.order.size v.floor v.order.guarantee v.initiating ahead (told_of v) (auction_fills (by_key ahead) v)
@@ -217,18 +225,18 @@ fills_are_lawful ahead ranks v h = record {
     rows : List FillRow
     rows = auction_fills (by_key ahead) v
 
-    counted : length v.stood ≡ length told
-    counted = sym (length-map v.stood (response_told side))
+    counted : guaranteed v.order.size (length v.stood) ≡ share_guaranteed v.order.size (length told)
+    counted = share_is v.order.size (length v.stood) ∙ ap (share_guaranteed v.order.size) (sym (length-map v.stood (response_told side)))
 
     laws : FillLaws side v.order.size v.floor v.initiating told rows
     laws = fill_list_in_order (by_key ahead) v.order v.floor v.initiating v.stood h.in_order h.guaranteed_at h.stop_at h.standing
 
-    contra : ContraLaws side v.order.guarantee v.initiating (guaranteed v.order.size (length told)) rows
-    contra = subst (λ (n : ℕ). ContraLaws side v.order.guarantee v.initiating (guaranteed v.order.size n) rows) counted
+    contra : ContraLaws side v.order.guarantee v.initiating (share_guaranteed v.order.size (length told)) rows
+    contra = subst (λ (g : ℕ). ContraLaws side v.order.guarantee v.initiating g rows) counted
         (contra_in_order (by_key ahead) v.order v.floor v.initiating v.stood h.in_order h.guaranteed_at h.stop_at h.standing)
 
-    shares : OnlyTheseShares side v.order.size v.floor v.order.guarantee v.initiating (guaranteed v.order.size (length told)) told rows
-    shares = subst (λ (n : ℕ). OnlyTheseShares side v.order.size v.floor v.order.guarantee v.initiating (guaranteed v.order.size n) told rows) counted
+    shares : OnlyTheseShares side v.order.size v.floor v.order.guarantee v.initiating (share_guaranteed v.order.size (length told)) told rows
+    shares = subst (λ (g : ℕ). OnlyTheseShares side v.order.size v.floor v.order.guarantee v.initiating g told rows) counted
         (only_in_order (by_key ahead) v.order v.floor v.initiating v.stood h.in_order h.guaranteed_at h.stop_at h.standing)
 
     order : RowLaws side ahead told rows

@@ -6,7 +6,7 @@ pub mod Apart
 pub mod Shapes
 mod Waiting
 pub mod Lives
-mod Elsewhere
+pub mod Elsewhere
 mod Fates
 mod Counted
 mod HowManyWait

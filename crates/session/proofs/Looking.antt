@@ -1,5 +1,5 @@
 -- What looks tell: the history.
-use Rattle.std.proofs.Common.{◌≡◌, ℕ, List, [], ◌∷◌, is_some, Some, Option, refl, ap, ◌∙◌, arith}
+use Rattle.std.proofs.Common.{◌≡◌, ℕ, Bool, true, false, cond, not, eqb, leb, List, [], ◌∷◌, is_some, Some, None, Option, sym, refl, ap, ◌∙◌, arith}
 use Rattle.std.proofs.lemmas.Bool.Decides.{nat_tests}
 use Rattle.std.specs.Option.{option_map}
 use Rattle.interval.specs.Source.{WithinLimits}
@@ -9,11 +9,15 @@ use Rattle.room.specs.Looks.{auction_view, look_call}
 use Rattle.room.specs.State.{OpenAuction, RoomState, is_number, new_room}
 use Rattle.room.specs.World.{World, Terms}
 use Rattle.session.specs.declared.calls.Call.{Call}
-use Rattle.session.specs.History.{Exchange, Story, openings, open_story, story_view, view_then, history_of}
+use Rattle.session.specs.History.{Exchange, Story, deadline_of, time_then, going_on, not_due, story_of, openings, open_story, story_view, view_then, history_of}
+use Rattle.session.specs.Moments.{is_open}
+use Rattle.room.specs.Clock.{due}
+use Rattle.session.proofs.Ending.Lives.{Stepped, kept, expired, Life, unborn, alive, waiting, gone}
+use Rattle.session.proofs.Ending.Elsewhere.{stepped_elsewhere}
 use Rattle.session.specs.Looking.{LooksTellTheHistory, LooksTellTheHistoryInRuns}
 use Rattle.session.specs.Runs.{Looked, Moment, moment, step}
-use Rattle.session.proofs.Ending.AsTold.{linked}
-use Rattle.session.proofs.Ending.Held.{Holds, holds_new, holds_after}
+use Rattle.session.proofs.Ending.AsTold.{linked, alive_goes_on, over_stops}
+use Rattle.session.proofs.Ending.Held.{Holds, holds_new, holds_after, clock_of}
 use Rattle.session.proofs.Ending.Laws.{throughout, time_now}
 use Rattle.session.proofs.Linked.{Linked, Matches, Current, none_open, one_open}
 
@@ -37,6 +41,33 @@ module _ {P T F Q : Type 0} (w : World P T F Q) (number : ℕ) (p : P) (q : Q) w
       let waiting = h.waiting_is in
       cc
 
+  -- An auction is open behind the clock step exactly if it was open and the time does not reach its deadline.
+  module _ (n : ℕ) (past : List (Moment P T F Q)) (s u : RoomState P Q) (t : ℕ) (time : u.time ≡ t) where
+    stepped_closed : is_open n s ≡ false → going_on (story_of w p q n (history_of past)) ≡ None → Stepped s u → is_open n u ≡ is_some (not_due t (going_on (story_of w p q n (history_of past))))
+    stepped_closed x e clock = (stepped_elsewhere n s u clock x).still_closed ∙ sym (ap (λ o. is_some (not_due t o)) e)
+
+    not_due_by : (f : Story) (b : Bool) → leb (deadline_of f.opening) t ≡ b → is_some (not_due t (Some f)) ≡ not b
+    not_due_by f true e = ap (λ (b : Bool). is_some (cond b None (Some f))) e
+    not_due_by f false e = ap (λ (b : Bool). is_some (cond b None (Some f))) e
+
+    stepped_open : (a : OpenAuction) → s.current ≡ Some a → eqb a.number n ≡ true → (f : Story) → going_on (story_of w p q n (history_of past)) ≡ Some f → a.deadline ≡ deadline_of f.opening → Stepped s u
+        → is_open n u ≡ is_some (not_due t (going_on (story_of w p q n (history_of past))))
+    stepped_open a c i f e d (kept k y z) =
+        let at : k ≡ t = sym (ap (λ (v : RoomState P Q). v.time) y) ∙ time in
+        let late : leb (deadline_of f.opening) t ≡ false = ap (λ j. leb j t) (sym d) ∙ ap (leb a.deadline) (sym at) ∙ sym (ap (due k) c) ∙ z in
+        ap (is_open n) y ∙ ap (is_number n) c ∙ i ∙ sym (ap (λ o. is_some (not_due t o)) e ∙ not_due_by f false late)
+    stepped_open a c i f e d (expired k b x y z) =
+        let at : k ≡ t = sym (ap (λ (v : RoomState P Q). v.time) z) ∙ time in
+        let is : b ≡ a = cc in
+        let late : leb (deadline_of f.opening) t ≡ true = ap (λ j. leb j t) (sym d) ∙ ap (leb a.deadline) (sym at) ∙ ap (λ (v : OpenAuction). leb v.deadline k) (sym is) ∙ y in
+        ap (is_open n) z ∙ sym (ap (λ o. is_some (not_due t o)) e ∙ not_due_by f true late)
+
+    stepped_by_life : Life w p q n past s → Stepped s u → is_open n u ≡ is_some (not_due t (going_on (story_of w p q n (history_of past))))
+    stepped_by_life (unborn o x z te wc up) clock = stepped_closed x (ap going_on o) clock
+    stepped_by_life (alive a e i z o live) clock = stepped_open a e i live.story (alive_goes_on w p q n past s a live) live.matches.deadline_is clock
+    stepped_by_life (waiting e z once x o over) clock = stepped_closed x (over_stops w p q n past s over.story over.is_its_story (ap is_some over.cause_is)) clock
+    stepped_by_life (gone z x o g) clock = stepped_closed x (over_stops w p q n past s g.story g.is_its_story g.is_over) clock
+
   module _ (drawn : WithinLimits w.source) (past : List (Moment P T F Q)) (s : RoomState P Q) (c : Call T) (h : Holds w drawn number p q past s) where
     looks_tell : LooksTellTheHistory w p q past (moment w s c)
     looks_tell =
@@ -47,6 +78,9 @@ module _ {P T F Q : Type 0} (w : World P T F Q) (number : ℕ) (p : P) (q : Q) w
           look_next = ap Looked (look_tells (history_of (moment w s c ∷ past)) (step w s c).0 after);
           time_stepped = time_now w drawn number p q past s c h;
           time_after = next.time_is;
+          open_stepped = λ n. stepped_by_life n past s (moment w s c).stepped (time_then (history_of (moment w s c ∷ past))) (time_now w drawn number p q past s c h) (h.lives n) (clock_of w drawn number p q s c h.none_due);
+          market_after = after.position_is;
+          source_after = after.source_is;
           open_after = after.is_open;
         }
 

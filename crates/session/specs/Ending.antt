@@ -73,7 +73,7 @@ module _ {P T F Q : Type 0} (w : World P T F Q) (number : ℕ) (p : P) (q : Q) w
   -- An auction that is open when a call comes ends at it if and only if the call brings one of its causes; and an accepted
   -- collecting tells the cause for which the auction ended, the first that was brought.
   pub record EndedForItsCauses (past : List (Moment P T F Q)) (m : Moment P T F Q) : Type 0 where
-    pub ends_when_caused : (n : ℕ) → is_open n m.before ≡ true → ends_at n m ≡ is_some (cause_at w p q n (history_of past) (exchange_of m))
+    pub ends_when_caused : (n : ℕ) → ends_at n m ≡ is_some (cause_at w p q n (history_of past) (exchange_of m))
     pub tells_the_cause : (room auction rows : ℕ) → m.call ≡ Collect (record { room = room; auction = auction }) rows
         → is_collected m.answer ≡ true → told_cause m.answer ≡ cause_of w p q auction (history_of past)
 

@@ -2,12 +2,12 @@
 -- which accepted ticks and accepted openings lead. A history is a list of exchanges, the newest first; nothing of a room is
 -- in it.
 use Rattle.std.specs.Prelude.{ℕ, zero, suc, ◌+◌, max, Bool, true, false, cond, not, ◌&&◌, ◌||◌, List, [], ◌∷◌, ◌++◌, map, length, ℤ, is_some, Some, None, Ok, Err, Option, Result, ◌==◌, int_lt, nat_le}
-use Rattle.std.specs.Int.{int_max}
+use Rattle.std.specs.Int.{int_max, int_min}
 use Rattle.std.specs.Option.{option_map}
 use Rattle.std.specs.Str.{byte}
 use Rattle.market.specs.declared.range.TurnedQuote.{TurnedQuote}
 use Rattle.market.specs.declared.side.Side.{Side}
-use Rattle.market.specs.Range.{RangePrices, permitted, turned_quote}
+use Rattle.market.specs.Range.{RangePrices, turned_quote}
 use Rattle.market.specs.Turned.{turned}
 use Rattle.allocation.specs.declared.order.Guarantee.{Guarantee}
 use Rattle.allocation.specs.declared.order.GuaranteeKind.{GuaranteeKind}
@@ -152,8 +152,8 @@ abbrev pub above_one : Side → Option ℤ → List Told → Bool
 above_one side shown [] = false
 above_one side shown (r ∷ rs) = is_above shown (turned side r.price) || above_one side shown rs
 
--- An accepted opening: the order as handed in, the range that the market permitted it then, the room's time, and the
--- interval that the source answered.
+-- An accepted opening: the order as handed in; its range by what its side was shown then, from the floor to the lower of
+-- limit and contra price; the time; and the interval that the source answered.
 pub record OpeningFacts : Type 0 where
   pub order : PairedOrder
   pub range : RangePrices
@@ -184,9 +184,14 @@ next_arrival s = length s.storing + 1
 abbrev pub new_story : OpeningFacts → Story
 new_story f = record { opening = f; floor = f.range.floor; stood = []; storing = []; ended = None }
 
-abbrev pub story_by : PairedOrder → Result RangePrices ℕ → ℕ → ℕ → Option Story
-story_by o (Ok r) time interval = Some (new_story (record { order = o; range = r; time = time; interval = interval }))
-story_by o (Err e) time interval = None
+abbrev pub range_shown : PairedOrder → ℤ → ℤ → RangePrices
+range_shown o floor contra = record { side = o.side; floor = floor; contra = contra; initiating = int_min (turned o.side o.limit) contra }
+
+-- Where a side shows no price there is none.
+abbrev pub story_by : PairedOrder → Option ℤ → Option ℤ → ℕ → ℕ → Option Story
+story_by o None contra time interval = None
+story_by o (Some floor) None time interval = None
+story_by o (Some floor) (Some contra) time interval = Some (new_story (record { order = o; range = range_shown o floor contra; time = time; interval = interval }))
 
 -- The letter of the cause for which it ended, if it has.
 abbrev pub cause_told : Option Story → Option ℕ
@@ -355,7 +360,7 @@ module _ {P T F Q : Type 0} (w : World P T F Q) (p : P) (q : Q) where
 
   abbrev pub story_opened : Option PairedOrder → List (Exchange T F) → ℕ → Option Story
   story_opened None past time = None
-  story_opened (Some o) past time = story_by o (permitted o.side o.limit (w.market.shows (market_at past))) time (w.source.draws (source_at past))
+  story_opened (Some o) past time = story_by o (shown_to o.side past).floor (shown_to o.side past).contra time (w.source.draws (source_at past))
 
   -- The story of the auction of this number, from its accepted opening on.
   abbrev pub story_of : ℕ → List (Exchange T F) → Option Story
@@ -368,7 +373,7 @@ module _ {P T F Q : Type 0} (w : World P T F Q) (p : P) (q : Q) where
   cause_by (Some s) past x = first_cause past x s
 
   abbrev pub cause_at : ℕ → List (Exchange T F) → Exchange T F → Option ℕ
-  cause_at n past x = cause_by (story_of n past) past x
+  cause_at n past x = cause_by (going_on (story_of n past)) past x
 
   -- and the one for which it ended.
   abbrev pub cause_of : ℕ → List (Exchange T F) → Option ℕ

@@ -1,18 +1,17 @@
 -- What a member may learn from looks and from the answers to its own responses, changes and withdrawals, given where
 -- openings are accepted and where auctions end: nothing of a guarantee, and nothing of the price, the size and the class
 -- in other members' responses and changes. A term outside its limits is not hidden, since the input checks tell of it.
-use Rattle.std.specs.Prelude.{◌≡◌, ◌⊎◌, ℕ, Bool, true, false, not, cond, ◌&&◌, List, [], ◌∷◌, map, is_some, Some, None, Option, ◌==◌}
-use Rattle.allocation.specs.declared.order.Guarantee.{Guarantee}
+use Rattle.std.specs.Prelude.{◌≡◌, ◌⊎◌, ℕ, Bool, true, false, not, cond, ◌&&◌, List, [], ◌∷◌, map, ℤ, is_some, Some, None, Option, ◌==◌}
 use Rattle.allocation.specs.declared.response.Class.{Class}
 use Rattle.room.specs.declared.requests.ChangeRequest.{ChangeRequest}
 use Rattle.room.specs.declared.requests.OpeningRequest.{OpeningRequest}
 use Rattle.room.specs.declared.requests.ResponseRequest.{ResponseRequest}
-use Rattle.room.specs.Checks.{price_ok, size_ok}
 use Rattle.room.specs.State.{OpenAuction}
 use Rattle.room.specs.World.{World}
 use Rattle.session.specs.declared.calls.Call.{Call}
 use Rattle.session.specs.declared.calls.Call.TheVariants.{Open, Respond, Change, Withdraw, Tick, Halt, Resume, Clock, Look, Collect}
 use Rattle.session.specs.History.{opened_number}
+use Rattle.session.specs.Inputs.{beyond_prices, beyond_sizes}
 use Rattle.session.specs.Moments.{ends_at}
 use Rattle.session.specs.Runs.{Answer, Moment, run}
 
@@ -20,26 +19,29 @@ use Rattle.session.specs.Runs.{Answer, Moment, run}
 abbrev pub HiddenOrEqual : {X : Type 0} → (X → Bool) → X → X → Type 0
 HiddenOrEqual hidden x y = ((hidden x ≡ true) × (hidden y ≡ true)) ⊎ (x ≡ y)
 
--- A guarantee is hidden from every member, whole, its kind and its price, where its price is inside the limits.
-abbrev pub guarantee_hidden : Guarantee → Bool
-guarantee_hidden g = price_ok g.price
-
 -- A term of a response or change is hidden from a member u that is not its sender, where the term is inside its limits.
 abbrev pub hidden_from : {X : Type 0} → ℕ → ℕ → (X → Bool) → X → Bool
 hidden_from u sender in_limits x = not (sender == u) && in_limits x
 
--- Each class is inside its limits.
-abbrev pub class_ok : Class → Bool
-class_ok c = true
+-- A term is inside its limits where no input check refuses it; every class is.
+abbrev pub price_inside : ℤ → Bool
+price_inside z = not (beyond_prices z)
 
--- Two openings that are equal but for a guarantee that is hidden, whoever opens.
+abbrev pub size_inside : ℕ → Bool
+size_inside n = not (beyond_sizes n)
+
+abbrev pub class_inside : Class → Bool
+class_inside c = true
+
+-- Two openings that are equal but for the guarantee, whoever opens: its kind is hidden, and its price where it is inside the
+-- limits.
 pub record OpeningsAlike (x y : OpeningRequest) : Type 0 where
   pub time : x.time ≡ y.time
   pub member : x.member ≡ y.member
   pub side : x.order.side ≡ y.order.side
   pub size : x.order.size ≡ y.order.size
   pub limit : x.order.limit ≡ y.order.limit
-  pub guarantee : HiddenOrEqual guarantee_hidden x.order.guarantee y.order.guarantee
+  pub guarantee_price : HiddenOrEqual price_inside x.order.guarantee.price y.order.guarantee.price
 
 -- Two responses that are equal but for those of price, size and class that are hidden from a member.
 pub record ResponsesAlike (u : ℕ) (x y : ResponseRequest) : Type 0 where
@@ -48,17 +50,17 @@ pub record ResponsesAlike (u : ℕ) (x y : ResponseRequest) : Type 0 where
   pub own : x.own ≡ y.own
   pub side : x.side ≡ y.side
   pub kind : x.kind ≡ y.kind
-  pub price : HiddenOrEqual (hidden_from u x.member price_ok) x.price y.price
-  pub size : HiddenOrEqual (hidden_from u x.member size_ok) x.size y.size
-  pub class : HiddenOrEqual (hidden_from u x.member class_ok) x.class y.class
+  pub price : HiddenOrEqual (hidden_from u x.member price_inside) x.price y.price
+  pub size : HiddenOrEqual (hidden_from u x.member size_inside) x.size y.size
+  pub class : HiddenOrEqual (hidden_from u x.member class_inside) x.class y.class
 
 -- Two changes that are equal but for those of price and size that are hidden from a member.
 pub record ChangesAlike (u : ℕ) (x y : ChangeRequest) : Type 0 where
   pub time : x.time ≡ y.time
   pub member : x.member ≡ y.member
   pub own : x.own ≡ y.own
-  pub price : HiddenOrEqual (hidden_from u x.member price_ok) x.price y.price
-  pub size : HiddenOrEqual (hidden_from u x.member size_ok) x.size y.size
+  pub price : HiddenOrEqual (hidden_from u x.member price_inside) x.price y.price
+  pub size : HiddenOrEqual (hidden_from u x.member size_inside) x.size y.size
 
 -- Two calls that are alike to a member. Of calls of other kinds nothing is hidden: those are alike that are equal.
 abbrev pub Alike : {T : Type 0} → ℕ → Call T → Call T → Type 0

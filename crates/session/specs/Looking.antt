@@ -3,7 +3,7 @@ use Rattle.std.specs.Prelude.{◌≡◌, ℕ, List, [], ◌∷◌, is_some}
 use Rattle.room.specs.World.{World}
 use Rattle.session.specs.declared.calls.Call.{Call}
 use Rattle.session.specs.declared.calls.Call.TheVariants.{Look}
-use Rattle.session.specs.History.{time_then, going_on, story_of, view_then, history_of, Throughout}
+use Rattle.session.specs.History.{time_then, market_at, source_at, going_on, not_due, story_of, view_then, history_of, Throughout}
 use Rattle.session.specs.Moments.{is_open}
 use Rattle.session.specs.Runs.{Looked, Moment, step, run}
 
@@ -19,6 +19,11 @@ module _ {P T F Q : Type 0} (w : World P T F Q) (p : P) (q : Q) where
     -- The room's time is that of the history before the call's own business as well as after it,
     pub time_stepped : m.stepped.time ≡ time_then (history_of (m ∷ past))
     pub time_after : m.after.time ≡ time_then (history_of (m ∷ past))
+    -- an auction is open behind the clock step exactly if it was open and the time does not reach its deadline,
+    pub open_stepped : (n : ℕ) → is_open n m.stepped ≡ is_some (not_due (time_then (history_of (m ∷ past))) (going_on (story_of w p q n (history_of past))))
+    -- its market and its source are where the accepted ticks and the accepted openings have led them,
+    pub market_after : m.after.position ≡ market_at w p q (history_of (m ∷ past))
+    pub source_after : m.after.source ≡ source_at w p q (history_of (m ∷ past))
     -- and an auction is open in the room exactly if its story goes on.
     pub open_after : (n : ℕ) → is_open n m.after ≡ is_some (going_on (story_of w p q n (history_of (m ∷ past))))
 

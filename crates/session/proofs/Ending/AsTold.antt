@@ -16,10 +16,10 @@ use Rattle.room.proofs.Tests.{true_false}
 
 module _ {P T F Q : Type 0} (w : World P T F Q) (p : P) (q : Q) (n : ℕ) (past : List (Moment P T F Q)) (s : RoomState P Q) where
   -- an auction is open as long as its story goes on
-  alive_goes_on : (a : OpenAuction) (live : Alive w p q n past a) → going_on (story_of w p q n (history_of past)) ≡ Some live.story
+  pub alive_goes_on : (a : OpenAuction) (live : Alive w p q n past a) → going_on (story_of w p q n (history_of past)) ≡ Some live.story
   alive_goes_on a live = ap going_on live.is_its_story ∙ ap (λ (b : Bool). cond b None (Some live.story)) (ap is_some live.goes_on)
 
-  over_stops : (f : Story) → story_of w p q n (history_of past) ≡ Some f → is_some f.ended ≡ true → going_on (story_of w p q n (history_of past)) ≡ None
+  pub over_stops : (f : Story) → story_of w p q n (history_of past) ≡ Some f → is_some f.ended ≡ true → going_on (story_of w p q n (history_of past)) ≡ None
   over_stops f e h = ap going_on e ∙ ap (λ (b : Bool). cond b None (Some f)) h
 
   open_by : Life w p q n past s → is_open n s ≡ is_some (going_on (story_of w p q n (history_of past)))

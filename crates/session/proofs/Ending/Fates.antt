@@ -13,7 +13,7 @@ use Rattle.room.specs.Ticks.{shown_above, shown_below, above_response, above_sto
 use Rattle.room.specs.World.{World}
 use Rattle.session.specs.declared.calls.Call.{Call}
 use Rattle.session.specs.declared.calls.Call.TheVariants.{Tick, Halt}
-use Rattle.session.specs.History.{Exchange, Story, deadline_of, guarantee_of, opens, collects, ticked_at, another_opened, opened_number, told_terms, is_accepted, is_collected, is_same, claimed, tick_in, is_halt, plain_below, stood_after, storing_after, next_arrival, shown_or, is_above, is_below, stop_passed, above_one, position_then, time_then, market_at, shown_now, deadline_reached, floor_above_initiating, floor_above_response, floor_above_stop, contra_below_guarantee, plain_response_below_floor, halt_accepted, first_cause, stood_told, lived, cause_by, cause_at, exchange_of, history_of}
+use Rattle.session.specs.History.{Exchange, Story, deadline_of, guarantee_of, opens, collects, ticked_at, another_opened, opened_number, told_terms, is_accepted, is_collected, is_same, claimed, tick_in, is_halt, plain_below, stood_after, storing_after, next_arrival, shown_or, is_above, is_below, stop_passed, above_one, position_then, time_then, market_at, shown_now, deadline_reached, floor_above_initiating, floor_above_response, floor_above_stop, contra_below_guarantee, plain_response_below_floor, halt_accepted, first_cause, stood_told, lived, going_on, cause_by, cause_at, exchange_of, history_of}
 use Rattle.session.specs.Moments.{is_open, ends_at}
 use Rattle.session.specs.Reasons.{stored_by}
 use Rattle.session.specs.Runs.{Answer, Accepted, Moment}
@@ -114,7 +114,9 @@ module _ {P T F Q : Type 0} (w : World P T F Q) (p : P) (q : Q) where
 
     -- the causes, by the story
     cause_by_story : cause_at w p q n before x ≡ first_cause w p q before x s
-    cause_by_story = ap (λ o. cause_by w p q o before x) live.is_its_story
+    cause_by_story =
+        ap (λ o. cause_by w p q (going_on o) before x) live.is_its_story
+        ∙ ap (λ (b : Bool). cause_by w p q (cond b None (Some s)) before x) (ap is_some live.goes_on)
 
     -- What the call makes of floor, responses and members that stored: nothing, where it is told nothing of a response, or
     -- the deadline was reached.

@@ -1,10 +1,15 @@
 -- When an auction ends: what holds of a room and its history at every moment of a run, and the laws that follow from it.
-use Rattle.std.proofs.Common.{◌≡◌, ◌⊎◌, inl, inr, ℕ, ◌+◌, ◌-◌, ◌≤◌, max, Bool, true, false, cond, not, ◌&&◌, eqb, List, [], ◌∷◌, is_some, Some, None, Option, Result, sym, refl, ap, ◌∙◌, arith}
+use Rattle.std.proofs.Common.{◌≡◌, ◌⊎◌, inl, inr, ℕ, ◌+◌, ◌-◌, ◌≤◌, max, Bool, true, false, cond, not, ◌&&◌, eqb, List, [], ◌∷◌, ℤ, is_some, Some, None, Ok, Err, Option, Result, sym, refl, ap, ◌∙◌, arith}
 use Rattle.std.proofs.lemmas.Bool.{and_left}
 use Rattle.std.specs.Option.{option_map}
 use Rattle.std.proofs.lemmas.Bool.Decides.{nat_tests as tests}
 use Rattle.std.proofs.lemmas.List.{get_or-replicate}
-use Rattle.market.specs.Range.{RangePrices, permitted}
+use lib.Signed.{lt_z}
+use Rattle.std.specs.Int.{int_min}
+use Rattle.market.specs.declared.quote.Quote.{Quote}
+use Rattle.market.specs.Prices.{in_limits}
+use Rattle.market.specs.Turned.{turned}
+use Rattle.market.specs.Range.{RangePrices, permitted, range_faced, turned_quote}
 use Rattle.interval.specs.Source.{WithinLimits}
 use Rattle.allocation.specs.declared.order.PairedOrder.{PairedOrder}
 use Rattle.room.specs.Clock.{due}
@@ -13,7 +18,7 @@ use Rattle.room.specs.State.{OpenAuction, EndedAuction, RoomState, new_room, num
 use Rattle.room.specs.World.{World}
 use Rattle.session.specs.declared.calls.Call.{Call}
 use Rattle.session.specs.Ending.{collectings, held_in}
-use Rattle.session.specs.History.{Exchange, OpeningFacts, Story, new_story, story_by, clock_time, opens, collects, opened_number, is_accepted, is_collected, is_same, claimed, tick_in, order_in, halted_by, time_then, halted_then, openings, was_collected, story_after, story_opened, story_of, market_at, source_at, position_then, exchange_of, history_of}
+use Rattle.session.specs.History.{Exchange, OpeningFacts, Story, new_story, range_shown, story_by, clock_time, opens, collects, opened_number, is_accepted, is_collected, is_same, claimed, tick_in, order_in, halted_by, time_then, halted_then, openings, was_collected, story_after, story_opened, story_of, market_at, source_at, position_then, exchange_of, history_of}
 use Rattle.session.specs.Moments.{is_open, ends_at, times_ended}
 use Rattle.session.specs.Runs.{Answer, Moment, given_time, input_refusal, moment, step}
 use Rattle.session.proofs.Ending.Counted.{Counted, same, more, fewer, counted_by, opened_held, position_by, time_by, number_by, halted_by_call, last_by, stepped_held, stepped_last, IsTheLast}
@@ -25,6 +30,28 @@ use Rattle.room.proofs.Sound.{new_sound, permitted_ordered}
 use Rattle.room.proofs.Tests.{true_false, none_some}
 use Rattle.session.proofs.Ending.Waiting.{Once, closed_other}
 use Rattle.std.specs.Str.{byte}
+
+-- what a market shows, where it permits an order a range, makes the story of an opening in that range
+range_from_is : (o : PairedOrder) (floor contra : ℤ) (b : Bool) (r : RangePrices) (t i : ℕ) → cond {A = Result RangePrices ℕ} b (Err 15) (Ok (range_shown o floor contra)) ≡ Ok r
+    → story_by o (Some floor) (Some contra) t i ≡ Some (new_story (record { order = o; range = r; time = t; interval = i }))
+range_from_is o floor contra true r t i h = absurd cc
+range_from_is o floor contra false r t i h =
+    let is : range_shown o floor contra ≡ r = cc in ap (λ z. Some (new_story (record { order = o; range = z; time = t; interval = i }))) is
+
+range_faced_is : (o : PairedOrder) (floor contra : Option ℤ) (r : RangePrices) (t i : ℕ) → range_faced o.side (turned o.side o.limit) floor contra ≡ Ok r
+    → story_by o floor contra t i ≡ Some (new_story (record { order = o; range = r; time = t; interval = i }))
+range_faced_is o None contra r t i h = absurd cc
+range_faced_is o (Some floor) None r t i h = absurd cc
+range_faced_is o (Some floor) (Some contra) r t i h = range_from_is o floor contra (lt_z (int_min (turned o.side o.limit) contra) floor) r t i h
+
+limit_checked_is : (o : PairedOrder) (q : Quote) (b : Bool) (r : RangePrices) (t i : ℕ) → cond {A = Result RangePrices ℕ} b (range_faced o.side (turned o.side o.limit) (turned_quote o.side q).floor (turned_quote o.side q).contra) (Err 2) ≡ Ok r
+    → story_by o (turned_quote o.side q).floor (turned_quote o.side q).contra t i ≡ Some (new_story (record { order = o; range = r; time = t; interval = i }))
+limit_checked_is o q true r t i h = range_faced_is o (turned_quote o.side q).floor (turned_quote o.side q).contra r t i h
+limit_checked_is o q false r t i h = absurd cc
+
+story_in_range : (o : PairedOrder) (q : Quote) (r : RangePrices) (t i : ℕ) → permitted o.side o.limit q ≡ Ok r
+    → story_by o (turned_quote o.side q).floor (turned_quote o.side q).contra t i ≡ Some (new_story (record { order = o; range = r; time = t; interval = i }))
+story_in_range o q r t i h = limit_checked_is o q (in_limits (Some o.limit)) r t i h
 
 module _ {P T F Q : Type 0} (w : World P T F Q) (drawn : WithinLimits w.source) (number : ℕ) (p : P) (q : Q) where
   -- what holds of a room after a history
@@ -132,7 +159,7 @@ module _ {P T F Q : Type 0} (w : World P T F Q) (drawn : WithinLimits w.source) 
       story_is =
           ap (λ (b : Bool). cond b (story_opened w p q (order_in m.call) before (time_then (x ∷ before))) (option_map (story_after w p q before x) (story_of w p q n before))) o
           ∙ ap (λ (c : Call T). story_opened w p q (order_in c) before (time_then (x ∷ before))) d.call_is
-          ∙ ap (λ (e : Result RangePrices ℕ). story_by order e (time_then (x ∷ before)) (w.source.draws (source_at w p q before)))
+          ∙ story_in_range order (w.market.shows (market_at w p q before)) d.range (time_then (x ∷ before)) (w.source.draws (source_at w p q before))
           (ap (λ e. permitted order.side order.limit (w.market.shows e)) (sym position_then_is) ∙ d.permitted_then)
 
       none_collected : collects n x ≡ false

@@ -16,7 +16,7 @@ use Rattle.room.specs.World.{World, Terms}
 use Rattle.session.specs.declared.calls.Call.{Call}
 use Rattle.session.specs.declared.calls.Call.TheVariants.{Open, Respond, Change, Withdraw, Tick, Halt, Resume, Clock, Look, Collect}
 use Rattle.session.specs.Ending.{TimedAt, CollectedWhenDue, told_cause, EndedWithinASecond, NotByTimeTooSoon, BusinessAfterTheClockStep, EndedNotVanished, EndedForItsCauses, AuctionsEndAsRuled}
-use Rattle.session.specs.History.{Story, deadline_of, is_over, clock_time, time_or_first, opened_number, is_collected, time_then, openings, was_collected, waits_then, story_of, cause_at, cause_of, exchange_of, history_of, Throughout}
+use Rattle.session.specs.History.{Story, deadline_of, is_over, clock_time, time_or_first, opened_number, is_collected, time_then, openings, was_collected, going_on, waits_then, story_of, cause_by, cause_at, cause_of, exchange_of, history_of, Throughout}
 use Rattle.session.specs.Moments.{is_open, ends_at, times_ended}
 use Rattle.session.specs.Runs.{Answer, Opened, Stored, Accepted, Collected, Moment, answered, answering, clock_stepped, given_time, input_refusal, moment, step, run_from}
 use Rattle.session.proofs.Ending.Counted.{Counted, same, more, fewer}
@@ -226,11 +226,20 @@ module _ {P T F Q : Type 0} (w : World P T F Q) (drawn : WithinLimits w.source) 
         and_right (is_open n s) _ (ap not (ap (is_number n) f ∙ i)) ∙ sym (ap is_some e)
     caused_by n k (ends e) = and_from (is_open n s) _ k (ap not e.shut) ∙ sym (ap is_some e.caused)
 
-    caused_live : (n : ℕ) → is_open n s ≡ true → Life w p q n past s → ends_at n (moment w s c) ≡ is_some (cause_at w p q n (history_of past) (exchange_of (moment w s c)))
-    caused_live n k (unborn o x v te wc up) = true_false (sym k ∙ x)
-    caused_live n k (alive a e i z o live) = caused_by n k (fate_of w drawn number p q past (moment w s c) h (clock past s c h) (stepped_time c s) (did w s c) n a e i z o live)
-    caused_live n k (waiting e z once x o v) = true_false (sym k ∙ x)
-    caused_live n k (gone z x o g) = true_false (sym k ∙ x)
+    -- an auction that is not open does not end, and no call brings it a cause
+    caused_not_open : (n : ℕ) → is_open n s ≡ false → going_on (story_of w p q n (history_of past)) ≡ None → ends_at n (moment w s c) ≡ is_some (cause_at w p q n (history_of past) (exchange_of (moment w s c)))
+    caused_not_open n x e =
+        ap (λ (b : Bool). b && not (is_open n (step w s c).0)) x ∙ sym (ap (λ o. is_some (cause_by w p q o (history_of past) (exchange_of (moment w s c)))) e)
+
+    stops : (n : ℕ) (f : Story) → story_of w p q n (history_of past) ≡ Some f → is_some f.ended ≡ true → going_on (story_of w p q n (history_of past)) ≡ None
+    stops n f e k = ap going_on e ∙ ap (λ (b : Bool). cond b None (Some f)) k
+
+    caused_live : (n : ℕ) → Life w p q n past s → ends_at n (moment w s c) ≡ is_some (cause_at w p q n (history_of past) (exchange_of (moment w s c)))
+    caused_live n (unborn o x v te wc up) = caused_not_open n x (ap going_on o)
+    caused_live n (alive a e i z o live) =
+        caused_by n (ap (is_number n) e ∙ i) (fate_of w drawn number p q past (moment w s c) h (clock past s c h) (stepped_time c s) (did w s c) n a e i z o live)
+    caused_live n (waiting e z once x o v) = caused_not_open n x (stops n v.story v.is_its_story (ap is_some v.cause_is))
+    caused_live n (gone z x o g) = caused_not_open n x (stops n g.story g.is_its_story g.is_over)
 
     -- the auction that is collected is one that waits
     pub waits_over : (n : ℕ) (e : EndedAuction) → numbered n s.waiting ≡ Some e → Life w p q n past s → Over w p q n past e
@@ -250,7 +259,7 @@ module _ {P T F Q : Type 0} (w : World P T F Q) (drawn : WithinLimits w.source) 
 
     for_its_causes : EndedForItsCauses w number p q past (moment w s c)
     for_its_causes = record {
-      ends_when_caused = λ n k. caused_live n k (h.lives n);
+      ends_when_caused = λ n. caused_live n (h.lives n);
       tells_the_cause = λ room auction rows e k. told_by auction (collected_or_not w (moment w s c) (did w s c)) room rows e k;
     }
 

@@ -1,12 +1,11 @@
 -- Every list of calls is alike to itself, and of two alike lists it does not matter which comes first.
 use Rattle.std.proofs.Common.{◌≡◌, inl, inr, ℕ, Bool, [], ◌∷◌, sym, refl, subst}
-use Rattle.room.specs.Checks.{price_ok, size_ok}
 use Rattle.session.specs.declared.calls.Call.{Call}
 use Rattle.session.specs.declared.calls.Call.TheVariants.{Open, Respond, Change}
-use Rattle.session.specs.Learning.{HiddenOrEqual, guarantee_hidden, hidden_from, class_ok, Alike, AlikeToItself, AlikeBothWays}
+use Rattle.session.specs.Learning.{HiddenOrEqual, hidden_from, price_inside, size_inside, class_inside, Alike, AlikeToItself, AlikeBothWays}
 
 pub one_to_itself : {T : Type 0} (u : ℕ) (c : Call T) → Alike u c c
-one_to_itself u (Open x) = record { time = refl; member = refl; side = refl; size = refl; limit = refl; guarantee = inr refl }
+one_to_itself u (Open x) = record { time = refl; member = refl; side = refl; size = refl; limit = refl; guarantee_price = inr refl }
 one_to_itself u (Respond x) = record { time = refl; member = refl; own = refl; side = refl; kind = refl; price = inr refl; size = inr refl; class = inr refl }
 one_to_itself u (Change x) = record { time = refl; member = refl; own = refl; price = inr refl; size = inr refl }
 one_to_itself u c = refl
@@ -32,7 +31,7 @@ one_both_ways u (Open x) (Open y) a = record {
   side = sym a.side;
   size = sym a.size;
   limit = sym a.limit;
-  guarantee = either_way guarantee_hidden x.order.guarantee y.order.guarantee a.guarantee;
+  guarantee_price = either_way price_inside x.order.guarantee.price y.order.guarantee.price a.guarantee_price;
 }
 one_both_ways u (Respond x) (Respond y) a = record {
   time = sym a.time;
@@ -40,16 +39,16 @@ one_both_ways u (Respond x) (Respond y) a = record {
   own = sym a.own;
   side = sym a.side;
   kind = sym a.kind;
-  price = sent_either_way u x.member y.member price_ok x.price y.price a.member a.price;
-  size = sent_either_way u x.member y.member size_ok x.size y.size a.member a.size;
-  class = sent_either_way u x.member y.member class_ok x.class y.class a.member a.class;
+  price = sent_either_way u x.member y.member price_inside x.price y.price a.member a.price;
+  size = sent_either_way u x.member y.member size_inside x.size y.size a.member a.size;
+  class = sent_either_way u x.member y.member class_inside x.class y.class a.member a.class;
 }
 one_both_ways u (Change x) (Change y) a = record {
   time = sym a.time;
   member = sym a.member;
   own = sym a.own;
-  price = sent_either_way u x.member y.member price_ok x.price y.price a.member a.price;
-  size = sent_either_way u x.member y.member size_ok x.size y.size a.member a.size;
+  price = sent_either_way u x.member y.member price_inside x.price y.price a.member a.price;
+  size = sent_either_way u x.member y.member size_inside x.size y.size a.member a.size;
 }
 one_both_ways u c d a = subst (λ e. Alike u e c) a (one_to_itself u c)
 

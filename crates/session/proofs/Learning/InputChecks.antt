@@ -8,8 +8,7 @@ use Rattle.room.specs.declared.requests.ResponseRequest.{ResponseRequest}
 use Rattle.room.specs.Checks.{price_ok, size_ok, open_checks, respond_checks, change_checks}
 use Rattle.room.specs.Refusals.{refuse}
 use Rattle.room.proofs.Tests.{refuse_none}
-use Rattle.session.specs.Learning.{guarantee_hidden}
-use Rattle.session.proofs.Learning.Hidden.{kept_unless, no_guarantee, opening_without, response_without, change_without}
+use Rattle.session.proofs.Learning.Hidden.{kept_unless, opening_without, response_without, change_without}
 
 a_member : (m : ℕ) → not (from_to 1 16 m) ≡ false → 1 ≤ m
 a_member m h = grind (arith, nat_tests)
@@ -43,7 +42,7 @@ module _ (F : Type 0) where
   pub open_checks_same : (x : OpeningRequest) → open_checks x ≡ open_checks (opening_without x)
   open_checks_same x =
       ap (λ b. refuse (ltb 4000000000000 x.time) 1 (refuse (not (price_ok x.order.limit)) 2 (refuse (not b) 2 (refuse (not (size_ok x.order.size)) 3 (refuse (not (from_to 1 16 x.member)) 4 None)))))
-      (sym (limits_same guarantee_hidden no_guarantee x.order.guarantee refl))
+      (sym (limits_same price_ok (pos 0) x.order.guarantee.price refl))
 
   terms_checks_same : (time member own : Bool) (price : ℤ) (size : ℕ)
       → let checks : Bool → Bool → Option ℕ = λ a b. refuse time 1 (refuse (not a) 2 (refuse (not b) 3 (refuse member 4 (refuse own 5 None)))) in
