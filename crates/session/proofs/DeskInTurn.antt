@@ -79,7 +79,7 @@ module _ {M R S P T D F Q : Type 0} (world : R → World P T F Q) (position : M 
         of_a_new_desk = λ number p q d cs made h.
             let w = world_at world position source fault d in
             behind w (terms d.session.room.ranking) (none_carried number p q) d cs refl refl (record { answers = refl; room = refl; claims = refl }) made h;
-        behind_a_day = λ past d cs none promise e h.
+        behind_others = λ past d cs none promise e h.
             let w = world_at world position source fault d in
             behind w (terms d.session.room.ranking) past d cs refl none (as_modelled w past promise) e h;
       }

@@ -1,6 +1,6 @@
 -- The input checks by the room and by the history: a call that a room refuses for what it hands in is told the first input
 -- check that it fails.
-use Rattle.std.proofs.Common.{◌≡◌, ℕ, Bool, true, false, cond, not, ltb, ℤ, is_some, Some, None, Option, sym, refl, ap, ◌∙◌, arith}
+use Rattle.std.proofs.Common.{◌≡◌, ℕ, Bool, cond, not, ℤ, is_some, Some, None, Option, sym, refl, ap, ◌∙◌, arith}
 use borrow.Author.Differences.{ints}
 use Rattle.std.proofs.lemmas.Bool.Decides.{nat_tests}
 use Rattle.allocation.specs.AuctionInvariant.{from_to}
@@ -8,7 +8,7 @@ use Rattle.room.specs.Checks.{price_ok}
 use Rattle.room.specs.Refusals.{refuse}
 use Rattle.session.specs.declared.calls.Call.{Call}
 use Rattle.session.specs.declared.calls.Call.TheVariants.{Open, Respond, Change, Withdraw, Tick, Halt, Resume, Clock, Look, Collect}
-use Rattle.session.specs.Inputs.{late, beyond_prices, outside, input_reason}
+use Rattle.session.specs.Inputs.{beyond_prices, outside, input_reason}
 use Rattle.session.specs.Runs.{input_refusal}
 
 outside_is : (least most n : ℕ) → not (from_to least most n) ≡ outside least most n

@@ -16,8 +16,8 @@ pub record Matches (s : Story) (a : OpenAuction) : Type 0 where
   pub floor_is : a.values.floor ≡ s.floor
   pub stood_is : told_of a.values ≡ s.stood
   pub deadline_is : a.deadline ≡ deadline_of s.opening
-  pub arrivals_is : a.arrivals ≡ length s.storing
-  pub used_is : (member : ℕ) → 1 ≤ member → member ≤ 16 → used_by member a.used ≡ stored_by member s.storing
+  pub arrivals_is : a.arrivals ≡ length s.storers
+  pub used_is : (member : ℕ) → 1 ≤ member → member ≤ 16 → used_by member a.used ≡ stored_by member s.storers
   pub sound : Sound a.values
 
 -- the open auction of a room and the story that goes on

@@ -9,12 +9,12 @@ use Rattle.room.specs.Looks.{auction_view, look_call}
 use Rattle.room.specs.State.{OpenAuction, RoomState, is_number, new_room}
 use Rattle.room.specs.World.{World, Terms}
 use Rattle.session.specs.declared.calls.Call.{Call}
-use Rattle.session.specs.History.{Exchange, Story, deadline_of, time_then, going_on, not_due, story_of, openings, open_story, story_view, view_then, history_of}
-use Rattle.session.specs.Moments.{is_open}
+use Rattle.session.specs.History.{Exchange, Story, deadline_of, time_then, going_on, not_due, story_of, openings, open_story, story_view, view_then}
+use Rattle.session.specs.Moments.{is_open, history_of}
 use Rattle.room.specs.Clock.{due}
 use Rattle.session.proofs.Ending.Lives.{Stepped, kept, expired, Life, unborn, alive, waiting, gone}
 use Rattle.session.proofs.Ending.Elsewhere.{stepped_elsewhere}
-use Rattle.session.specs.Looking.{LooksTellTheHistory, LooksTellTheHistoryInRuns}
+use Rattle.session.specs.Looking.{LooksTellTheHistory, LooksTellTheHistoryInRuns, RoomHoldsTheHistory, RoomsHoldTheHistory}
 use Rattle.session.specs.Runs.{Looked, Moment, moment, step}
 use Rattle.session.proofs.Ending.AsTold.{linked, alive_goes_on, over_stops}
 use Rattle.session.proofs.Ending.Held.{Holds, holds_new, holds_after, clock_of}
@@ -69,22 +69,32 @@ module _ {P T F Q : Type 0} (w : World P T F Q) (number : ℕ) (p : P) (q : Q) w
     stepped_by_life (gone z x o g) clock = stepped_closed x (over_stops w p q n past s g.story g.is_its_story g.is_over) clock
 
   module _ (drawn : WithinLimits w.source) (past : List (Moment P T F Q)) (s : RoomState P Q) (c : Call T) (h : Holds w drawn number p q past s) where
+    next_linked : Linked w number p q (history_of (moment w s c ∷ past)) (step w s c).0
+    next_linked = linked w drawn number p q (moment w s c ∷ past) (step w s c).0 (holds_after w drawn number p q past s c h)
+
     looks_tell : LooksTellTheHistory w p q past (moment w s c)
-    looks_tell =
-        let next = holds_after w drawn number p q past s c h in
-        let after = linked w drawn number p q (moment w s c ∷ past) (step w s c).0 next in
+    looks_tell = record {
+      look = λ e. ap (λ (k : Call T). (step w s k).1) e ∙ ap Looked (look_tells (history_of past) s (linked w drawn number p q past s h));
+      look_next = ap Looked (look_tells (history_of (moment w s c ∷ past)) (step w s c).0 next_linked);
+    }
+
+    room_holds : RoomHoldsTheHistory w p q past (moment w s c)
+    room_holds =
+        let now = time_now w drawn number p q past s c h in
         record {
-          look = λ e. ap (λ (k : Call T). (step w s k).1) e ∙ ap Looked (look_tells (history_of past) s (linked w drawn number p q past s h));
-          look_next = ap Looked (look_tells (history_of (moment w s c ∷ past)) (step w s c).0 after);
-          time_stepped = time_now w drawn number p q past s c h;
-          time_after = next.time_is;
-          open_stepped = λ n. stepped_by_life n past s (moment w s c).stepped (time_then (history_of (moment w s c ∷ past))) (time_now w drawn number p q past s c h) (h.lives n) (clock_of w drawn number p q s c h.none_due);
-          market_after = after.position_is;
-          source_after = after.source_is;
-          open_after = after.is_open;
+          time_stepped = now;
+          time_after = next_linked.time_is;
+          open_stepped = λ n. stepped_by_life n past s (moment w s c).stepped (time_then (history_of (moment w s c ∷ past))) now (h.lives n) (clock_of w drawn number p q s c h.none_due);
+          open_after = next_linked.is_open;
+          market_after = next_linked.position_is;
+          source_after = next_linked.source_is;
         }
 
 -- of every run
 pub looks_tell_the_history : {P T F Q : Type 0} (w : World P T F Q) → Terms w → LooksTellTheHistoryInRuns w
 looks_tell_the_history w terms number p q cs =
     throughout w terms.drawn_within number p q (LooksTellTheHistory w p q) (looks_tell w number p q terms.drawn_within) [] (new_room number p q) cs (holds_new w terms.drawn_within number p q)
+
+pub rooms_hold_the_history : {P T F Q : Type 0} (w : World P T F Q) → Terms w → RoomsHoldTheHistory w
+rooms_hold_the_history w terms number p q cs =
+    throughout w terms.drawn_within number p q (RoomHoldsTheHistory w p q) (room_holds w number p q terms.drawn_within) [] (new_room number p q) cs (holds_new w terms.drawn_within number p q)

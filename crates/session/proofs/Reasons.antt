@@ -42,7 +42,8 @@ use Rattle.room.proofs.Checked.{response_inside, change_inside}
 use Rattle.room.proofs.Tests.{none_some, ok_err, refuse_none, unless_ok, and_then_ok}
 use Rattle.session.specs.declared.calls.Call.{Call}
 use Rattle.session.specs.declared.calls.Call.TheVariants.{Open, Respond, Change, Withdraw, Tick, Halt, Resume, Clock, Look, Collect}
-use Rattle.session.specs.History.{Exchange, Story, deadline_of, is_plain_kind, opened_number, told_terms, going_on, not_due, clock_time, time_or_first, time_then, halted_then, openings, market_at, shown_to, story_of, open_story, waiting_then, history_of}
+use Rattle.session.specs.History.{Exchange, Story, deadline_of, is_plain_kind, opened_number, told_terms, going_on, not_due, clock_time, time_or_zero, time_then, halted_then, openings, market_at, shown_to, story_of, open_story, waiting_then}
+use Rattle.session.specs.Moments.{history_of}
 use Rattle.session.specs.Inputs.{first_that_holds, input_reasons, input_reason}
 use Rattle.session.specs.Reasons.{refused_number, fault_in_answer, in_kind, on_one_side, standing_of, price_reasons, by_open, above_initiating, used_up, respond_reasons, sealed_reasons, change_reasons, withdraw_reasons, terms_kept, terms_due, fault_in, found_open, one_waits, market_fault, state_reasons, reasons, AnsweredWithReason, AnswersHaveTheirReasons, AnswersHaveTheirReasonsInRuns}
 use Rattle.session.specs.Runs.{Answer, Opened, Stored, Accepted, Collected, Refused, Moment, answered, given_time, input_refusal, step, moment}
@@ -346,7 +347,7 @@ module _ {P T F Q : Type 0} (w : World P T F Q) (number : ℕ) (p : P) (q : Q) (
       let b = due (max s.time t) s.current in
       let u = at_time (max s.time t) s in
       let e = ended (byte "T") u in
-      let clock : t ≡ clock_time c = sym (ap (λ (z : Option ℕ). cond (is_some z) 0 (time_or_first (given_time c))) (passes c k) ∙ ap time_or_first g) in
+      let clock : t ≡ clock_time c = sym (ap (λ (z : Option ℕ). cond (is_some z) 0 (time_or_zero (given_time c))) (passes c k) ∙ ap time_or_zero g) in
       let time : max s.time t ≡ max (time_then past) (clock_time c) = ap (λ z. max z t) h.time_is ∙ ap (max (time_then past)) clock in
       record {
         number_is = either_way (λ (z : RoomState P Q). z.number) b e u number h.number_is h.number_is;

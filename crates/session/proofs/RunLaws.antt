@@ -8,7 +8,7 @@ use Rattle.session.proofs.Ending.Laws.{auctions_end_as_ruled}
 use Rattle.session.proofs.Learning.Alike.{alike_to_itself, alike_both_ways}
 use Rattle.session.proofs.Learning.Learned.{member_sees_the_same}
 use Rattle.session.proofs.Learning.LearnedInSessions.{member_sees_the_same_in_sessions}
-use Rattle.session.proofs.Looking.{looks_tell_the_history}
+use Rattle.session.proofs.Looking.{looks_tell_the_history, rooms_hold_the_history}
 use Rattle.session.proofs.Reasons.{answers_have_their_reasons_in_runs}
 use Rattle.session.proofs.SessionRuns.{answers_of_moments}
 use Rattle.session.proofs.Sharing.{contracts_are_shared_lawfully}
@@ -20,6 +20,7 @@ run_laws w terms = record {
   learning = member_sees_the_same w;
   session_learning = member_sees_the_same_in_sessions w;
   looks = looks_tell_the_history w terms;
+  rooms = rooms_hold_the_history w terms;
   ending = auctions_end_as_ruled w terms;
   sharing = contracts_are_shared_lawfully w terms;
   reasons = answers_have_their_reasons_in_runs w terms;
@@ -33,6 +34,7 @@ laws_of_run w terms number p q cs =
       alike_to_itself = λ u. alike_to_itself u cs;
       learning = λ u ds. member_sees_the_same w number p q u cs ds;
       looks = looks_tell_the_history w terms number p q cs;
+      rooms = rooms_hold_the_history w terms number p q cs;
       within_a_second = ends.0;
       after_the_clock_step = ends.1;
       not_too_soon = ends.2;

@@ -33,8 +33,8 @@ module _ {P T F Q : Type 0} where
   abbrev pub closed_at_once : World P T F Q → Carried P T F Q → Carried P T F Q
   closed_at_once w c = with_close c (told_at_close w c.room) (after_close w c.room)
 
-  -- A desk with a room was closed as if these calls had been made at it: what is told are their answers, and then the room holds
-  -- no auction and nobody a claim.
+  -- A desk with a room was closed as if these calls had been made at it: what is told are their answers, and then no claim is
+  -- held.
   pub record ClosedByCalls (w : World P T F Q) (s : RoomState P Q) (ts : List ToldAtClose) (room : RoomState P Q) : Type 0 where
     pub answers : session_answers w (at_desk s) (closing_calls ts) ≡ closing_answers ts
     pub end : session_end w (at_desk s) (closing_calls ts) ≡ session_of room []

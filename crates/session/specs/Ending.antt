@@ -5,9 +5,9 @@ use Rattle.room.specs.State.{RoomState, numbered}
 use Rattle.room.specs.World.{World}
 use Rattle.session.specs.declared.calls.Call.{Call}
 use Rattle.session.specs.declared.calls.Call.TheVariants.{Collect}
-use Rattle.session.specs.History.{Story, opened_number, is_collected, time_then, openings, waits_then, story_of, cause_at, cause_of, exchange_of, history_of, Throughout}
+use Rattle.session.specs.History.{Story, opened_number, is_collected, time_then, openings, waits_then, story_of, cause_at, cause_of}
 use Rattle.session.specs.Inputs.{input_reason}
-use Rattle.session.specs.Moments.{is_open, ends_at, ends_by_clock, times_ended}
+use Rattle.session.specs.Moments.{is_open, ends_at, ends_by_clock, times_ended, exchange_of, history_of, Throughout}
 use Rattle.session.specs.Runs.{Answer, Collected, Moment, given_time, step, run}
 
 -- The letter of the cause that an accepted collecting tells.
@@ -59,9 +59,9 @@ module _ {P T F Q : Type 0} (w : World P T F Q) (number : ℕ) (p : P) (q : Q) w
       → is_collected m.answer ≡ (nat_le 129 rows && (room == number && waits_then w p q auction (history_of past)))
 
   -- An accepted opening opens an auction, in a range that the market permits; auctions are counted from one. From the
-  -- moment at which it ends an auction waits until it is collected, so that accepted openings are accepted collectings,
-  -- auctions that wait, and the one that is open; and it can be collected from then on. Together no more than two wait or
-  -- are open.
+  -- moment at which it ends an auction waits until it is collected, so that accepted openings are as many as accepted
+  -- collectings, auctions that wait and the one that is open, together; and it can be collected from then on. No more than two
+  -- wait or are open.
   pub record EndedNotVanished (past : List (Moment P T F Q)) (m : Moment P T F Q) : Type 0 where
     pub waits_until_collected : (n : ℕ) → waits n m.after ≡ waits_then w p q n (history_of (m ∷ past))
     pub none_lost : openings (history_of (m ∷ past)) ≡ collectings (m ∷ past) + held_in m.after

@@ -1,7 +1,7 @@
 -- What a history tells: from calls and what they were answered, and from what market and source answer at the positions to
 -- which accepted ticks and accepted openings lead. A history is a list of exchanges, the newest first; nothing of a room is
 -- in it.
-use Rattle.std.specs.Prelude.{ℕ, zero, suc, ◌+◌, max, Bool, true, false, cond, not, ◌&&◌, ◌||◌, List, [], ◌∷◌, ◌++◌, map, length, ℤ, is_some, Some, None, Ok, Err, Option, Result, ◌==◌, int_lt, nat_le}
+use Rattle.std.specs.Prelude.{ℕ, zero, suc, ◌+◌, max, Bool, true, false, cond, not, ◌&&◌, ◌||◌, List, [], ◌∷◌, ◌++◌, length, ℤ, is_some, Some, None, Option, ◌==◌, int_lt, nat_le}
 use Rattle.std.specs.Int.{int_max, int_min}
 use Rattle.std.specs.Option.{option_map}
 use Rattle.std.specs.Str.{byte}
@@ -24,7 +24,7 @@ use Rattle.room.specs.World.{World}
 use Rattle.session.specs.declared.calls.Call.{Call}
 use Rattle.session.specs.declared.calls.Call.TheVariants.{Open, Respond, Change, Withdraw, Tick, Halt, Resume, Collect}
 use Rattle.session.specs.Inputs.{first_that_holds, input_reason}
-use Rattle.session.specs.Runs.{Answer, Opened, Stored, Accepted, Collected, Moment, given_time}
+use Rattle.session.specs.Runs.{Answer, Opened, Stored, Accepted, Collected, given_time}
 
 -- A call and what it was answered.
 pub record Exchange (T F : Type 0) : Type 0 where
@@ -173,16 +173,16 @@ pub record Story : Type 0 where
   pub opening : OpeningFacts
   pub floor : ℤ
   pub stood : List Told
-  pub storing : List ℕ
+  pub storers : List ℕ
   pub ended : Option ℕ
 
 -- An arrival is how many responses and changes the auction has accepted with the one that arrives.
 abbrev pub next_arrival : Story → ℕ
-next_arrival s = length s.storing + 1
+next_arrival s = length s.storers + 1
 
 -- A new auction's floor is that of its range; nobody has responded.
 abbrev pub new_story : OpeningFacts → Story
-new_story f = record { opening = f; floor = f.range.floor; stood = []; storing = []; ended = None }
+new_story f = record { opening = f; floor = f.range.floor; stood = []; storers = []; ended = None }
 
 abbrev pub range_shown : PairedOrder → ℤ → ℤ → RangePrices
 range_shown o floor contra = record { side = o.side; floor = floor; contra = contra; initiating = int_min (turned o.side o.limit) contra }
@@ -218,13 +218,13 @@ abbrev pub position_then : {P T : Type 0} → (P → T → P) → Bool → Optio
 position_then next accepted None p = p
 position_then next accepted (Some t) p = cond accepted (next p t) p
 
-abbrev pub time_or_first : Option ℕ → ℕ
-time_or_first None = 0
-time_or_first (Some t) = t
+abbrev pub time_or_zero : Option ℕ → ℕ
+time_or_zero None = 0
+time_or_zero (Some t) = t
 
 -- The time to which a call can move a room's: that of a timed call that passes its input checks.
 abbrev pub clock_time : {T : Type 0} → Call T → ℕ
-clock_time c = cond (is_some (input_reason c)) 0 (time_or_first (given_time c))
+clock_time c = cond (is_some (input_reason c)) 0 (time_or_zero (given_time c))
 
 -- What the open auction shows to everybody: its number, side, size and initiating price, not turned, those of its opening.
 abbrev pub story_view : ℕ → Story → AuctionView
@@ -350,7 +350,7 @@ module _ {P T F Q : Type 0} (w : World P T F Q) (p : P) (q : Q) where
       opening = s.opening;
       floor = floor_after;
       stood = cond (deadline_reached s (x ∷ past)) s.stood (stood_told (told_terms x.answer));
-      storing = cond stores (storing_after x.call s.storing) s.storing;
+      storers = cond stores (storing_after x.call s.storers) s.storers;
       ended = first_cause;
     }
 
@@ -407,15 +407,3 @@ module _ {P T F Q : Type 0} (w : World P T F Q) (p : P) (q : Q) where
     waiting = waiting_then past;
     auction = option_map (story_view (openings past)) (open_story past);
   }
-
--- The exchanges of moments.
-abbrev pub exchange_of : {P T F Q : Type 0} → Moment P T F Q → Exchange T F
-exchange_of m = record { call = m.call; answer = m.answer }
-
-abbrev pub history_of : {P T F Q : Type 0} → List (Moment P T F Q) → List (Exchange T F)
-history_of ms = map exchange_of ms
-
--- Of each moment of a run, with the moments before it.
-abbrev pub Throughout : {M : Type 0} → (List M → M → Type 0) → List M → List M → Type 0
-Throughout L past [] = Unit {0}
-Throughout L past (m ∷ ms) = L past m × Throughout L (m ∷ past) ms

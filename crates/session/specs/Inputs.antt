@@ -1,5 +1,5 @@
--- What is wrong with what a call hands in, by the numbers of the refusals, in the order of the checks. In the history's own
--- words: a law holds the answers to them.
+-- The input checks of each call, said without the room's definitions, in their order. The law of reasons holds the answers to
+-- them.
 use Rattle.std.specs.Prelude.{ℕ, Bool, cond, ◌||◌, List, [], ◌∷◌, ℤ, pos, neg_ℤ, Some, None, Option, int_lt, nat_lt}
 use Rattle.session.specs.declared.calls.Call.{Call}
 use Rattle.session.specs.declared.calls.Call.TheVariants.{Open, Respond, Change, Withdraw, Tick, Halt, Resume, Clock, Look, Collect}
@@ -10,8 +10,8 @@ first_that_holds [] = None
 first_that_holds (x ∷ xs) = cond x.0 (Some x.1) (first_that_holds xs)
 
 -- Times are at most 4,000,000,000,000 milliseconds.
-abbrev pub late : ℕ → Bool
-late t = nat_lt 4000000000000 t
+abbrev pub beyond_times : ℕ → Bool
+beyond_times t = nat_lt 4000000000000 t
 
 -- Prices are −40,000,000 to 40,000,000 cents.
 abbrev pub beyond_prices : ℤ → Bool
@@ -25,23 +25,23 @@ outside least most n = nat_lt n least || nat_lt most n
 abbrev pub beyond_sizes : ℕ → Bool
 beyond_sizes = outside 1 100000
 
-abbrev pub no_member : ℕ → Bool
-no_member = outside 1 16
+abbrev pub beyond_members : ℕ → Bool
+beyond_members = outside 1 16
 
-abbrev pub no_own_number : ℕ → Bool
-no_own_number = outside 1 4
+abbrev pub beyond_own_numbers : ℕ → Bool
+beyond_own_numbers = outside 1 4
 
 -- 1 the time, 2 a price, 3 the size, 4 the member, 5 the own number, 6 a list of rows under 129.
 abbrev pub input_reasons : {T : Type 0} → Call T → List (Bool × ℕ)
 input_reasons (Open x) =
-    (late x.time, 1) ∷ ((beyond_prices x.order.limit, 2) ∷ ((beyond_prices x.order.guarantee.price, 2) ∷ ((beyond_sizes x.order.size, 3) ∷ ((no_member x.member, 4) ∷ []))))
-input_reasons (Respond x) = (late x.time, 1) ∷ ((beyond_prices x.price, 2) ∷ ((beyond_sizes x.size, 3) ∷ ((no_member x.member, 4) ∷ ((no_own_number x.own, 5) ∷ []))))
-input_reasons (Change x) = (late x.time, 1) ∷ ((beyond_prices x.price, 2) ∷ ((beyond_sizes x.size, 3) ∷ ((no_member x.member, 4) ∷ ((no_own_number x.own, 5) ∷ []))))
-input_reasons (Withdraw x) = (late x.time, 1) ∷ ((no_member x.member, 4) ∷ ((no_own_number x.own, 5) ∷ []))
-input_reasons (Tick t x) = (late t, 1) ∷ []
-input_reasons (Halt t) = (late t, 1) ∷ []
-input_reasons (Resume t) = (late t, 1) ∷ []
-input_reasons (Clock t) = (late t, 1) ∷ []
+    (beyond_times x.time, 1) ∷ ((beyond_prices x.order.limit, 2) ∷ ((beyond_prices x.order.guarantee.price, 2) ∷ ((beyond_sizes x.order.size, 3) ∷ ((beyond_members x.member, 4) ∷ []))))
+input_reasons (Respond x) = (beyond_times x.time, 1) ∷ ((beyond_prices x.price, 2) ∷ ((beyond_sizes x.size, 3) ∷ ((beyond_members x.member, 4) ∷ ((beyond_own_numbers x.own, 5) ∷ []))))
+input_reasons (Change x) = (beyond_times x.time, 1) ∷ ((beyond_prices x.price, 2) ∷ ((beyond_sizes x.size, 3) ∷ ((beyond_members x.member, 4) ∷ ((beyond_own_numbers x.own, 5) ∷ []))))
+input_reasons (Withdraw x) = (beyond_times x.time, 1) ∷ ((beyond_members x.member, 4) ∷ ((beyond_own_numbers x.own, 5) ∷ []))
+input_reasons (Tick t x) = (beyond_times t, 1) ∷ []
+input_reasons (Halt t) = (beyond_times t, 1) ∷ []
+input_reasons (Resume t) = (beyond_times t, 1) ∷ []
+input_reasons (Clock t) = (beyond_times t, 1) ∷ []
 input_reasons Look = []
 input_reasons (Collect c rows) = (nat_lt rows 129, 6) ∷ []
 

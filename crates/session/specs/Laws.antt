@@ -4,8 +4,8 @@ use Rattle.std.specs.Option.{option_map}
 use Rattle.room.specs.World.{World}
 use Rattle.session.specs.declared.calls.Call.{Call}
 use Rattle.session.specs.Ending.{EndedWithinASecond, BusinessAfterTheClockStep, NotByTimeTooSoon, EndedNotVanished, EndedForItsCauses, AuctionsEndAsRuled}
-use Rattle.session.specs.History.{Throughout}
-use Rattle.session.specs.Looking.{LooksTellTheHistory, LooksTellTheHistoryInRuns}
+use Rattle.session.specs.Moments.{Throughout}
+use Rattle.session.specs.Looking.{LooksTellTheHistory, LooksTellTheHistoryInRuns, RoomHoldsTheHistory, RoomsHoldTheHistory}
 use Rattle.session.specs.Learning.{AllAlike, AlikeToItself, AlikeBothWays, opens_here, ends_here, seen_by, MemberSeesTheSame}
 use Rattle.session.specs.Reasons.{AnswersHaveTheirReasons, AnswersHaveTheirReasonsInRuns}
 use Rattle.session.specs.Runs.{Moment, run}
@@ -19,6 +19,7 @@ pub record RunLaws {P T F Q : Type 0} (w : World P T F Q) : Type 0 where
   pub learning : MemberSeesTheSame w
   pub session_learning : MemberSeesTheSameInSessions w
   pub looks : LooksTellTheHistoryInRuns w
+  pub rooms : RoomsHoldTheHistory w
   pub ending : AuctionsEndAsRuled w
   pub sharing : ContractsAreSharedLawfully w
   pub reasons : AnswersHaveTheirReasonsInRuns w
@@ -33,8 +34,9 @@ pub record LawsOfRun {P T F Q : Type 0} (w : World P T F Q) (number : ℕ) (p : 
       → map opens_here (run w number p q cs) ≡ map opens_here (run w number p q ds)
       → map ends_here (run w number p q cs) ≡ map ends_here (run w number p q ds)
       → map (seen_by u) (run w number p q cs) ≡ map (seen_by u) (run w number p q ds)
-  -- What looks tell.
+  -- What looks tell, and what the room holds that no look tells.
   pub looks : Throughout (LooksTellTheHistory w p q) [] (run w number p q cs)
+  pub rooms : Throughout (RoomHoldsTheHistory w p q) [] (run w number p q cs)
   -- When an auction ends.
   pub within_a_second : Throughout (EndedWithinASecond w number p q) [] (run w number p q cs)
   pub after_the_clock_step : Throughout (λ past. BusinessAfterTheClockStep w number p q) [] (run w number p q cs)

@@ -17,7 +17,8 @@ use Rattle.room.specs.declared.requests.WithdrawRequest.{WithdrawRequest}
 use Rattle.room.specs.World.{World}
 use Rattle.session.specs.declared.calls.Call.{Call}
 use Rattle.session.specs.declared.calls.Call.TheVariants.{Open, Respond, Change, Withdraw, Tick, Halt, Resume, Clock, Look, Collect}
-use Rattle.session.specs.History.{Exchange, Story, is_above, is_below, is_plain_kind, is_own, going_on, not_due, clock_time, time_then, halted_then, openings, market_at, shown_to, story_of, open_story, waits_then, waiting_then, exchange_of, history_of, Throughout}
+use Rattle.session.specs.History.{Exchange, Story, is_above, is_below, is_plain_kind, is_own, going_on, not_due, clock_time, time_then, halted_then, openings, market_at, shown_to, story_of, open_story, waits_then, waiting_then}
+use Rattle.session.specs.Moments.{exchange_of, history_of, Throughout}
 use Rattle.session.specs.Inputs.{first_that_holds, input_reasons, input_reason}
 use Rattle.session.specs.Runs.{Answer, Opened, Stored, Accepted, Looked, Collected, Refused, Moment, run}
 
@@ -92,7 +93,7 @@ above_initiating s price = int_lt s.opening.range.initiating (turned s.opening.o
 
 -- The member's 10,000 accepted responses and changes are used.
 abbrev pub used_up : Story → ℕ → Bool
-used_up s member = nat_le 10000 (stored_by member s.storing)
+used_up s member = nat_le 10000 (stored_by member s.storers)
 
 -- A response: 22 it is on the order's side, 23 above the initiating price, 24 its own number is in use, 27 the 10,000 are
 -- used.

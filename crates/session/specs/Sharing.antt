@@ -7,7 +7,8 @@ use Rattle.room.specs.Collecting.{CollectionTold}
 use Rattle.room.specs.World.{World}
 use Rattle.session.specs.declared.calls.Call.{Call}
 use Rattle.session.specs.declared.calls.Call.TheVariants.{Collect}
-use Rattle.session.specs.History.{Story, story_of, guarantee_of, history_of, Throughout}
+use Rattle.session.specs.History.{Story, story_of, guarantee_of}
+use Rattle.session.specs.Moments.{history_of, Throughout}
 use Rattle.session.specs.Runs.{Collected, Moment, run}
 
 -- The rows that a collecting wrote list the responses that stood, total the order's size, lie between the auction's floor
@@ -22,8 +23,8 @@ pub record SharedLawfully {P T F Q : Type 0} (w : World P T F Q) (p : P) (q : Q)
 
 abbrev pub CollectedLawfully : {P T F Q : Type 0} → World P T F Q → P → Q → List (Moment P T F Q) → Moment P T F Q → Type 0
 CollectedLawfully w p q past m =
-    (room auction length : ℕ) (k : CollectionTold) (rows : List FillRow)
-    → m.call ≡ Collect (record { room = room; auction = auction }) length → m.answer ≡ Collected k rows
+    (room auction long : ℕ) (k : CollectionTold) (rows : List FillRow)
+    → m.call ≡ Collect (record { room = room; auction = auction }) long → m.answer ≡ Collected k rows
     → SharedLawfully w p q auction past k rows
 
 -- Of every run and every accepted collecting in it.

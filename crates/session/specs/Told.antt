@@ -18,7 +18,7 @@ module _ {F G : Type 0} (fault : F → G) where
   told (CodeRefused e) = Some (Refused (refusal_told fault e))
   told NoClaim = None
 
-  -- So is a refusal, where it is told apart.
+  -- The same of a result whose refusal is not an answer yet.
   abbrev pub told_result : Result (CodeAnswer F) (Refusal F) → Option (Answer G)
   told_result (Ok a) = told a
   told_result (Err e) = Some (Refused (refusal_told fault e))

@@ -15,8 +15,8 @@ use Rattle.allocation.specs.declared.response.Class.TheVariants.{Customer, Other
 use Rattle.allocation.specs.declared.response.Kind.{Kind}
 use Rattle.allocation.specs.declared.response.Kind.TheVariants.{Sealed, Plain}
 use Rattle.allocation.specs.FillLaws.{Told}
-use Rattle.session.specs.History.{Exchange, OpeningFacts, story_of, was_collected, waiting_then, view_then, history_of}
-use Rattle.session.specs.Moments.{times_ended}
+use Rattle.session.specs.History.{Exchange, OpeningFacts, story_of, was_collected, waiting_then, view_then}
+use Rattle.session.specs.Moments.{times_ended, history_of}
 use Rattle.session.specs.Runs.{Looked, run}
 use Rattle.worked_runs.specs.Causes.{next_auction_run, floor_above_initiating_run, floor_above_response_run, floor_above_stop_run, plain_below_floor_run, contra_below_guarantee_run, halt_run, deadline_run, rows_by_arrival}
 use Rattle.worked_runs.specs.Rooms.{CubeMoment, by_arrival, hundred, unquoted_market, day_calls}
@@ -64,7 +64,7 @@ standing kind class member own size price arrival =
 -- it: before it a look tells this, and after it none waits.
 abbrev pub Tells : List Line → OpeningFacts → ℤ → List Told → List ℕ → ℕ → CubeAnswer → Type 0
 Tells ls facts floor stood storing cause look =
-    (story_of by_arrival unquoted_market hundred 1 (history ls) ≡ Some (record { opening = facts; floor = floor; stood = stood; storing = storing; ended = Some cause }))
+    (story_of by_arrival unquoted_market hundred 1 (history ls) ≡ Some (record { opening = facts; floor = floor; stood = stood; storers = storing; ended = Some cause }))
     × (times_ended 1 (moments ls) ≡ 1)
     × (Looked (view_then by_arrival unquoted_market hundred (drop 1 (history ls))) ≡ look)
     × (was_collected 1 (history ls) ≡ true)

@@ -1,6 +1,6 @@
 -- The responses that stand in an auction differ by member and own number, and by arrival; storing, changing and withdrawing
 -- one keeps that.
-use Rattle.std.proofs.Common.{◌≡◌, ℕ, ◌+◌, Bool, true, false, cond, not, ◌&&◌, eqb, leb, List, [], ◌∷◌, ◌++◌, ℤ, is_some, sym, refl, ap, ◌∙◌, arith}
+use Rattle.std.proofs.Common.{◌≡◌, ℕ, ◌+◌, Bool, true, false, cond, not, eqb, leb, List, [], ◌∷◌, ℤ, is_some, sym, refl, ap, ◌∙◌, arith}
 use Rattle.std.proofs.lemmas.Bool.Decides.{nat_tests}
 use Rattle.allocation.proofs.AuctionKept.{apart_push}
 use Rattle.allocation.proofs.OwnResponses.{free_stands}

@@ -3,8 +3,8 @@ use Rattle.std.proofs.Common.{◌≡◌, ℕ, ◌≤◌, Bool, true, false, cond
 use Rattle.interval.specs.Source.{WithinLimits}
 use Rattle.room.specs.State.{OpenAuction, RoomState, is_number, numbered}
 use Rattle.room.specs.World.{World}
-use Rattle.session.specs.History.{Story, openings, going_on, story_of, history_of}
-use Rattle.session.specs.Moments.{is_open}
+use Rattle.session.specs.History.{Story, openings, going_on, story_of}
+use Rattle.session.specs.Moments.{is_open, history_of}
 use Rattle.session.specs.Runs.{Moment}
 use Rattle.session.proofs.Ending.Held.{Holds}
 use Rattle.session.proofs.Ending.HowManyWait.{waiting_counted}

@@ -9,8 +9,8 @@ use Rattle.room.specs.State.{OpenAuction, EndedAuction, RoomState, at_time, at_p
 use Rattle.room.specs.Ticks.{tick_cause, ticked_for, ticked, at_floor, floor_now}
 use Rattle.room.specs.World.{World}
 use Rattle.session.specs.declared.calls.Call.{Call}
-use Rattle.session.specs.History.{opens, collects, opened_number, is_collected, is_same, claimed, plain_below, exchange_of}
-use Rattle.session.specs.Moments.{is_open}
+use Rattle.session.specs.History.{opens, collects, opened_number, is_collected, is_same, claimed, plain_below}
+use Rattle.session.specs.Moments.{is_open, exchange_of}
 use Rattle.session.specs.Runs.{Answer, Opened, Moment}
 use Rattle.session.proofs.Ending.Lives.{Stepped, kept, expired}
 use Rattle.session.proofs.Ending.Shapes.{Did, idle, opened, stored, ticks, halts, collected, OpenedHere, CollectedHere, opened_or_not, collected_or_not}

@@ -13,8 +13,8 @@ use Rattle.room.specs.Ticks.{shown_above, shown_below, above_response, above_sto
 use Rattle.room.specs.World.{World}
 use Rattle.session.specs.declared.calls.Call.{Call}
 use Rattle.session.specs.declared.calls.Call.TheVariants.{Tick, Halt}
-use Rattle.session.specs.History.{Exchange, Story, deadline_of, guarantee_of, opens, collects, ticked_at, another_opened, opened_number, told_terms, is_accepted, is_collected, is_same, claimed, tick_in, is_halt, plain_below, stood_after, storing_after, next_arrival, shown_or, is_above, is_below, stop_passed, above_one, position_then, time_then, market_at, shown_now, deadline_reached, floor_above_initiating, floor_above_response, floor_above_stop, contra_below_guarantee, plain_response_below_floor, halt_accepted, first_cause, stood_told, lived, going_on, cause_by, cause_at, exchange_of, history_of}
-use Rattle.session.specs.Moments.{is_open, ends_at}
+use Rattle.session.specs.History.{Exchange, Story, deadline_of, guarantee_of, opens, collects, ticked_at, another_opened, opened_number, told_terms, is_accepted, is_collected, is_same, claimed, tick_in, is_halt, plain_below, stood_after, storing_after, next_arrival, shown_or, is_above, is_below, stop_passed, above_one, position_then, time_then, market_at, shown_now, deadline_reached, floor_above_initiating, floor_above_response, floor_above_stop, contra_below_guarantee, plain_response_below_floor, halt_accepted, first_cause, stood_told, lived, going_on, cause_by, cause_at}
+use Rattle.session.specs.Moments.{is_open, ends_at, exchange_of, history_of}
 use Rattle.session.specs.Reasons.{stored_by}
 use Rattle.session.specs.Runs.{Answer, Accepted, Moment}
 use Rattle.session.proofs.Ending.Apart.{Apart}
@@ -131,25 +131,25 @@ module _ {P T F Q : Type 0} (w : World P T F Q) (p : P) (q : Q) where
     stood_late : tT ≡ true → s_next.stood ≡ s.stood
     stood_late h = ap (λ (b : Bool). cond b s.stood (stood_told w p q before x s (told_terms m.answer))) h
 
-    storing_late : tT ≡ true → s_next.storing ≡ s.storing
-    storing_late h = ap (λ (b : Bool). cond b (storing_after m.call s.storing) s.storing) (and_right (is_some (told_terms m.answer)) _ (ap not h))
+    storing_late : tT ≡ true → s_next.storers ≡ s.storers
+    storing_late h = ap (λ (b : Bool). cond b (storing_after m.call s.storers) s.storers) (and_right (is_some (told_terms m.answer)) _ (ap not h))
 
     stood_quiet : told_terms m.answer ≡ None → s_next.stood ≡ s.stood
     stood_quiet h = ap (λ o. cond tT s.stood (stood_told w p q before x s o)) h ∙ same_either tT s.stood
 
-    storing_quiet : told_terms m.answer ≡ None → s_next.storing ≡ s.storing
-    storing_quiet h = ap (λ (o : Option StoredTerms). cond (is_some o && not tT) (storing_after m.call s.storing) s.storing) h
+    storing_quiet : told_terms m.answer ≡ None → s_next.storers ≡ s.storers
+    storing_quiet h = ap (λ (o : Option StoredTerms). cond (is_some o && not tT) (storing_after m.call s.storers) s.storers) h
 
     stood_stored : (t : StoredTerms) → tT ≡ false → told_terms m.answer ≡ Some t → s_next.stood ≡ stood_after m.call t (next_arrival s) s.stood
     stood_stored t h k = ap (λ (b : Bool). cond b s.stood (stood_told w p q before x s (told_terms m.answer))) h ∙ ap (stood_told w p q before x s) k
 
-    storing_stored : (t : StoredTerms) → tT ≡ false → told_terms m.answer ≡ Some t → s_next.storing ≡ storing_after m.call s.storing
+    storing_stored : (t : StoredTerms) → tT ≡ false → told_terms m.answer ≡ Some t → s_next.storers ≡ storing_after m.call s.storers
     storing_stored t h k =
-        ap (λ (b : Bool). cond (is_some (told_terms m.answer) && not b) (storing_after m.call s.storing) s.storing) h
-        ∙ ap (λ (o : Option StoredTerms). cond (is_some o && true) (storing_after m.call s.storing) s.storing) k
+        ap (λ (b : Bool). cond (is_some (told_terms m.answer) && not b) (storing_after m.call s.storers) s.storers) h
+        ∙ ap (λ (o : Option StoredTerms). cond (is_some o && true) (storing_after m.call s.storers) s.storers) k
 
     -- the auction as it was
-    matches_as_it_was : s_next.floor ≡ s.floor → s_next.stood ≡ s.stood → s_next.storing ≡ s.storing → Matches s_next a
+    matches_as_it_was : s_next.floor ≡ s.floor → s_next.stood ≡ s.stood → s_next.storers ≡ s.storers → Matches s_next a
     matches_as_it_was f g k =
         let was = live.matches in
         record {
@@ -305,10 +305,10 @@ module _ {P T F Q : Type 0} (w : World P T F Q) (p : P) (q : Q) where
         told_so : told_terms m.answer ≡ Some here.terms
         told_so = ap (λ (k : Answer F). told_terms k) here.answer_is
 
-        counts_now : CountsThese (storing_after m.call s.storing) b
+        counts_now : CountsThese (storing_after m.call s.storers) b
         counts_now =
             let was = live.matches in
-            here.counts (ap (λ (v : OpenAuction). length v.used) is ∙ live.a_count_each) s.storing (subst (CountsThese s.storing) (sym is) (record { all = was.arrivals_is; of_each = was.used_is }))
+            here.counts (ap (λ (v : OpenAuction). length v.used) is ∙ live.a_count_each) s.storers (subst (CountsThese s.storers) (sym is) (record { all = was.arrivals_is; of_each = was.used_is }))
 
         matches_stored : Matches s_next b
         matches_stored =

@@ -18,8 +18,8 @@ use Rattle.room.specs.State.{OpenAuction, EndedAuction, RoomState, new_room, num
 use Rattle.room.specs.World.{World}
 use Rattle.session.specs.declared.calls.Call.{Call}
 use Rattle.session.specs.Ending.{collectings, held_in}
-use Rattle.session.specs.History.{Exchange, OpeningFacts, Story, new_story, range_shown, story_by, clock_time, opens, collects, opened_number, is_accepted, is_collected, is_same, claimed, tick_in, order_in, halted_by, time_then, halted_then, openings, was_collected, story_after, story_opened, story_of, market_at, source_at, position_then, exchange_of, history_of}
-use Rattle.session.specs.Moments.{is_open, ends_at, times_ended}
+use Rattle.session.specs.History.{Exchange, OpeningFacts, Story, new_story, range_shown, story_by, clock_time, opens, collects, opened_number, is_accepted, is_collected, is_same, claimed, tick_in, order_in, halted_by, time_then, halted_then, openings, was_collected, story_after, story_opened, story_of, market_at, source_at, position_then}
+use Rattle.session.specs.Moments.{is_open, ends_at, times_ended, exchange_of, history_of}
 use Rattle.session.specs.Runs.{Answer, Moment, given_time, input_refusal, moment, step}
 use Rattle.session.proofs.Ending.Counted.{Counted, same, more, fewer, counted_by, opened_held, position_by, time_by, number_by, halted_by_call, last_by, stepped_held, stepped_last, IsTheLast}
 use Rattle.session.proofs.Ending.Elsewhere.{Elsewhere, stepped_elsewhere, both_elsewhere, did_elsewhere, not_opened, not_collected}

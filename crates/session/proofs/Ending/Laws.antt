@@ -16,8 +16,8 @@ use Rattle.room.specs.World.{World, Terms}
 use Rattle.session.specs.declared.calls.Call.{Call}
 use Rattle.session.specs.declared.calls.Call.TheVariants.{Open, Respond, Change, Withdraw, Tick, Halt, Resume, Clock, Look, Collect}
 use Rattle.session.specs.Ending.{TimedAt, CollectedWhenDue, told_cause, EndedWithinASecond, NotByTimeTooSoon, BusinessAfterTheClockStep, EndedNotVanished, EndedForItsCauses, AuctionsEndAsRuled}
-use Rattle.session.specs.History.{Story, deadline_of, is_over, clock_time, time_or_first, opened_number, is_collected, time_then, openings, was_collected, going_on, waits_then, story_of, cause_by, cause_at, cause_of, exchange_of, history_of, Throughout}
-use Rattle.session.specs.Moments.{is_open, ends_at, times_ended}
+use Rattle.session.specs.History.{Story, deadline_of, is_over, clock_time, time_or_zero, opened_number, is_collected, time_then, openings, was_collected, going_on, waits_then, story_of, cause_by, cause_at, cause_of}
+use Rattle.session.specs.Moments.{is_open, ends_at, times_ended, exchange_of, history_of, Throughout}
 use Rattle.session.specs.Runs.{Answer, Opened, Stored, Accepted, Collected, Moment, answered, answering, clock_stepped, given_time, input_refusal, moment, step, run_from}
 use Rattle.session.proofs.Ending.Counted.{Counted, same, more, fewer}
 use Rattle.session.proofs.Ending.Elsewhere.{stepped_elsewhere}
@@ -94,7 +94,7 @@ module _ {P T F Q : Type 0} (w : World P T F Q) (drawn : WithinLimits w.source) 
 
     -- Within a second.
     reaches : (t : ℕ) → TimedAt t m → m.stepped.time ≡ max s.time t
-    reaches t k = reaches_time ∙ ap (λ (o : Option ℕ). max s.time (cond (is_some o) 0 (time_or_first (given_time c)))) k.1 ∙ ap (λ o. max s.time (time_or_first o)) k.0
+    reaches t k = reaches_time ∙ ap (λ (o : Option ℕ). max s.time (cond (is_some o) 0 (time_or_zero (given_time c)))) k.1 ∙ ap (λ o. max s.time (time_or_zero o)) k.0
 
     same_story : (n : ℕ) (a : OpenAuction) (live : Alive w p q n past a) (f : Story) → story_of w p q n (history_of past) ≡ Some f → live.story ≡ f
     same_story n a live f e = let g = live.is_its_story in cc

@@ -18,8 +18,8 @@ use Rattle.room.specs.Responses.{is_plain}
 use Rattle.room.specs.Ticks.{shown_above, shown_below, above_response, above_stop, floor_now}
 use Rattle.room.specs.World.{World}
 use Rattle.session.specs.declared.calls.Call.{Call}
-use Rattle.session.specs.History.{Story, is_above, is_below, shown_or, stop_passed, is_plain_kind, above_one, time_or_first, clock_time, opens, collects, was_collected, order_in, time_then, lived, story_after, story_opened, story_of, cause_told, cause_of, exchange_of, history_of}
-use Rattle.session.specs.Moments.{is_open, ends_at, times_ended}
+use Rattle.session.specs.History.{Story, is_above, is_below, shown_or, stop_passed, is_plain_kind, above_one, time_or_zero, clock_time, opens, collects, was_collected, order_in, time_then, lived, story_after, story_opened, story_of, cause_told, cause_of}
+use Rattle.session.specs.Moments.{is_open, ends_at, times_ended, exchange_of, history_of}
 use Rattle.session.specs.Runs.{Moment, clock_stepped, given_time, input_refusal}
 use Rattle.room.proofs.Tests.{true_false}
 use Rattle.session.proofs.Ending.Apart.{Apart}
@@ -57,7 +57,7 @@ module _ {P Q : Type 0} where
   clocked_time : (s : RoomState P Q) (t : ℕ) → (clocked s t).time ≡ max s.time t
   clocked_time s t = clocked_time_by (due (max s.time t) s.current) (max s.time t) s
 
-  stepped_time_by : (k : Option ℕ) (g : Option ℕ) (s : RoomState P Q) → (clock_stepped k g s).time ≡ max s.time (cond (is_some k) 0 (time_or_first g))
+  stepped_time_by : (k : Option ℕ) (g : Option ℕ) (s : RoomState P Q) → (clock_stepped k g s).time ≡ max s.time (cond (is_some k) 0 (time_or_zero g))
   stepped_time_by (Some e) g s = omega arith
   stepped_time_by None None s = omega arith
   stepped_time_by None (Some t) s = clocked_time s t
@@ -65,7 +65,7 @@ module _ {P Q : Type 0} where
   -- by the history's words: that of a timed call that passes its input checks
   pub stepped_time : {T : Type 0} (c : Call T) (s : RoomState P Q) → (clock_stepped (input_refusal c) (given_time c) s).time ≡ max s.time (clock_time c)
   stepped_time c s =
-      stepped_time_by (input_refusal c) (given_time c) s ∙ ap (λ (b : Bool). max s.time (cond b 0 (time_or_first (given_time c)))) (sym (fails_same c))
+      stepped_time_by (input_refusal c) (given_time c) s ∙ ap (λ (b : Bool). max s.time (cond b 0 (time_or_zero (given_time c)))) (sym (fails_same c))
 
   -- and leaves what neither the time nor an end changes
   stepped_keeps : {X : Type 0} (f : RoomState P Q → X) → ((t : ℕ) (s : RoomState P Q) → f (at_time t s) ≡ f s) → ((s : RoomState P Q) → f (ended (byte "T") s) ≡ f s)
