@@ -1,5 +1,7 @@
 // A room's own methods, called one after another from its making on: by their contracts the calls are a run.
 ghost use Rattle.std.specs.Prelude.{◌≡◌, [], ◌∷◌, map};
+ghost use Rattle.market.specs.Meaning.{told_by};
+ghost use Rattle.room.specs.Refusals.{refusal_told};
 ghost use Rattle.room.specs.Rooms.{world_of};
 ghost use Rattle.session.specs.declared.calls.Call.TheVariants.{Halt, Look};
 ghost use Rattle.session.specs.Laws.{LawsOfRun};
@@ -34,7 +36,7 @@ pub fn halted_room<M: Market, R: Ranking, S: IntervalSource>(
     source: S,
     time: u64,
 ) -> HaltedRoom<M, R, S, M::Fault>
-    ensures answers { map (λ m. m.answer) (run (world_of M.Market.meaning S.IntervalSource.meaning (R.Ranking.ahead ranking)) 1 (M.Market.position market) (S.IntervalSource.position source) (Halt time ∷ (Look ∷ []))) ≡ answered (λ _. Accepted) result.halted ∷ (Looked result.view ∷ []) }
+    ensures answers { map (λ m. m.answer) (run (world_of M.Market.meaning S.IntervalSource.meaning (R.Ranking.ahead ranking)) 1 (M.Market.position market) (S.IntervalSource.position source) (Halt time ∷ (Look ∷ []))) ≡ answered (λ _. Accepted) (told_by (refusal_told M.Market.told) result.halted) ∷ (Looked result.view ∷ []) }
     ensures laws { LawsOfRun (world_of M.Market.meaning S.IntervalSource.meaning (R.Ranking.ahead ranking)) 1 (M.Market.position market) (S.IntervalSource.position source) (Halt time ∷ (Look ∷ [])) }
 {
     calls_in_turn_are_a_run::<M, S, R>();
