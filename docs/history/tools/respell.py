@@ -1,7 +1,7 @@
 #!/usr/bin/env python3
 """Spells this repository's own definitions, lemmas and fields of .antt text as today's Rattle does: words in snake case, types in upper camel case.
 
-usage: tools/respell.py [--dry] [FOLDER]      (FOLDER has crates/; the folder above this script if none is given)
+usage: docs/history/tools/respell.py [--dry] [FOLDER]      (FOLDER has crates/; the folder above this script if none is given)
 
 A dash between two parts of a name of the repository's own becomes an underscore; a name that begins with a capital, a type
 or a statement, loses its dashes and writes each part with a capital. Names that a file imports from the kit stay, as do

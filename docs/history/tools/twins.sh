@@ -1,7 +1,7 @@
 #!/bin/sh
 # Lists the pairs of places in the sources that share five or more lines, or lines of one shape, by the machine's command
 # `duplicates`, which reads files that end in .rs: over a copy without contracts, comments and imports.
-# usage: tools/twins.sh [FOLDER]      FOLDER: the top of a checkout, else the current folder
+# usage: docs/history/tools/twins.sh [FOLDER]      FOLDER: the top of a checkout, else the current folder
 set -eu
 copy=$(mktemp -d)
 trap 'rm -rf "$copy"' EXIT

@@ -1,7 +1,7 @@
 #!/usr/bin/env python3
 """Lists the places that a design pass looks at, in the .rt files below crates/*/src, and how many there are.
 
-usage: tools/places.py [FOLDER]      FOLDER: the top of a checkout, else the current folder
+usage: docs/history/tools/places.py [FOLDER]      FOLDER: the top of a checkout, else the current folder
 Each section prints its places, one a line, and ends with its count. A place is a line of the source, or for repeated
 facts and parameters that travel together the fact or the parameters. It finds forms by their text: what a form means,
 and whether it is a place at all, is for the reader to say.
