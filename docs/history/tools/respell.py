@@ -1,7 +1,7 @@
 #!/usr/bin/env python3
 """Spells this repository's own definitions, lemmas and fields of .antt text as today's Rattle does: words in snake case, types in upper camel case.
 
-usage: docs/history/tools/respell.py [--dry] [FOLDER]      (FOLDER has crates/; the folder above this script if none is given)
+usage: docs/history/tools/respell.py [--dry] [FOLDER]      (FOLDER has crates/; the top of this checkout if none is given)
 
 A dash between two parts of a name of the repository's own becomes an underscore; a name that begins with a capital, a type
 or a statement, loses its dashes and writes each part with a capital. Names that a file imports from the kit stay, as do
@@ -114,7 +114,7 @@ def respelled(path, text, stay, everywhere):
 def main(argv):
     dry = "--dry" in argv
     folders = [a for a in argv if a != "--dry"]
-    root = folders[0] if folders else os.path.dirname(os.path.dirname(os.path.realpath(__file__)))
+    root = folders[0] if folders else os.path.join(os.path.dirname(os.path.realpath(__file__)), "..", "..", "..")
     own = set(crates(root))
     texts = {p: open(p, encoding="utf-8").read() for p in files(root)}
     everywhere = set()
