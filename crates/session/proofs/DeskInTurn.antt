@@ -9,11 +9,11 @@ use Rattle.session.specs.declared.desk.Desk.{Desk}
 use Rattle.session.specs.Closings.{ClosedByCalls}
 use Rattle.session.specs.DeskInTurn.{DeskCall, last_desk, room_at, world_at, DeskInTurn, desk_carried, DeskCallsKeepThePromise, none_carried, DeskPromise}
 use Rattle.session.specs.Desks.{at_desk, desk_after, desk_answer}
-use Rattle.session.specs.Promises.{Carried, at_first}
+use Rattle.session.specs.Promises.{Carried, Modelled, at_first}
 use Rattle.session.specs.Runs.{Answer}
 use Rattle.session.specs.Sessions.{Session, session_answer, session_answers, session_end}
 use Rattle.session.specs.Told.{told}
-use Rattle.session.proofs.Promised.{Modelled, answers_behind, as_modelled, closed_promised, desk_at_end, desk_kept, end_behind, promised}
+use Rattle.session.proofs.Promised.{answers_behind, as_modelled, closed_promised, desk_at_end, desk_kept, end_behind, promised}
 
 module _ {M R S P T D F Q : Type 0} (world : R → World P T F Q) (position : M → P) (source : S → Q) (fault : D → F) where
   abbrev calls_of : List (DeskCall M R S T D) → List (Call T)

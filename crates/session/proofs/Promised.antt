@@ -10,19 +10,13 @@ use Rattle.session.specs.declared.calls.Call.TheVariants.{Halt, Collect}
 use Rattle.session.specs.Claims.{claim_to, claims_to}
 use Rattle.session.specs.Closings.{collecting, collecting_answer, closing_calls, closing_answers, with_close, ClosedByCalls}
 use Rattle.session.specs.Desks.{ToldAtClose, at_desk, told_of_ended, halted_last, told_at_close, after_close, desk_after, desk_answer}
-use Rattle.session.specs.Promises.{Carried, WholePromise, at_first, made_of}
+use Rattle.session.specs.Promises.{Carried, Modelled, WholePromise, at_first, made_of}
 use Rattle.session.specs.Runs.{Collected, answered, step}
 use Rattle.session.specs.Sessions.{Session, session_of, session_after, session_answer, session_answers, session_end, given, holds, same_claim, purse_after}
 use Rattle.session.proofs.ClaimsKept.{ClaimsMatch, match_kept, match_at_end, same}
 use Rattle.session.proofs.Closing.{first_collected, first_is}
 use Rattle.session.proofs.RunLaws.{laws_of_run, laws_of_session}
 use Rattle.session.proofs.SessionRuns.{answers_of_made}
-
--- What the model has of calls that were carried out.
-pub record Modelled {P T F Q : Type 0} (w : World P T F Q) (c : Carried P T F Q) : Type 0 where
-  pub answers : c.answers ≡ session_answers w (at_first c.start) c.calls
-  pub room : c.room ≡ (session_end w (at_first c.start) c.calls).room
-  pub claims : c.claims ≡ (session_end w (at_first c.start) c.calls).purse
 
 pub promised : {P T F Q : Type 0} (w : World P T F Q) → Terms w → (c : Carried P T F Q) → Modelled w c → WholePromise w c
 promised w terms c h =

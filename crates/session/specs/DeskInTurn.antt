@@ -11,8 +11,8 @@ use Rattle.session.specs.Desks.{ToldAtClose, desk_after, desk_answer}
 use Rattle.session.specs.Promises.{Carried, WholePromise}
 use Rattle.session.specs.Told.{told}
 
--- A call at a desk: the desk before it and after it, and what it answered. (Where memory was wanting no call was made and the
--- room is as it was: such a call is left out of the list.)
+-- A call at a desk: the desk before it and after it, and what it answered. (Where memory was wanting no call was made, and the
+-- desk is as it was.)
 pub record DeskCall (M R S T F : Type 0) : Type 0 where
   pub before : Desk M R S
   pub call : Call T
@@ -67,6 +67,6 @@ module _ {M R S P T D F Q : Type 0} (world : R → World P T F Q) (position : M 
     -- All calls that are made one after another at a desk from its making,
     pub of_a_new_desk : (number : ℕ) (p : P) (q : Q) (d : Desk M R S) (cs : List (DeskCall M R S T D))
         → room_at d ≡ new_room number p q → DeskInTurn d cs → DeskPromise (world_at d) (none_carried number p q) d cs
-    -- and all that are made at a desk behind calls of which the promise holds, as those of a day.
+    -- and all that are made at a desk behind calls of which the promise holds.
     pub behind_others : (past : Carried P T F Q) (d : Desk M R S) (cs : List (DeskCall M R S T D))
         → past.start.purse ≡ [] → WholePromise (world_at d) past → room_at d ≡ past.room → DeskInTurn d cs → DeskPromise (world_at d) past d cs

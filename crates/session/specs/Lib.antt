@@ -17,9 +17,8 @@ pub mod Told
 pub mod Memory
 pub mod Made
 pub mod Promises
-pub mod Outcomes
+pub mod SessionRuns
 pub mod Desks
 pub mod Closings
 pub mod InTurn
 pub mod DeskInTurn
-pub mod Days

@@ -1,5 +1,4 @@
--- The memory that a run takes before its first call: a place for each answer, a place in the purse for each call, and a list
--- of rows for each collecting.
+-- The memory that calls take before they are made: a place in the purse for each, and a list of rows for each collecting.
 use Rattle.std.specs.Prelude.{◌≡◌, ℕ, ◌+◌, ◌≤◌, Bool, true, false, cond, List, [], ◌∷◌, Vec, vec_items, vec_capacity}
 use Rattle.allocation.specs.declared.fill.FillRow.{FillRow}
 use Rattle.session.specs.declared.calls.Call.{Call}

@@ -30,6 +30,12 @@ pub record Carried (P T F Q : Type 0) : Type 0 where
 abbrev pub at_first : {P Q : Type 0} → Start P Q → Session P Q
 at_first s = session_of (new_room s.number s.market s.source) s.purse
 
+-- What the model has of calls that were carried out.
+pub record Modelled {P T F Q : Type 0} (w : World P T F Q) (c : Carried P T F Q) : Type 0 where
+  pub answers : c.answers ≡ session_answers w (at_first c.start) c.calls
+  pub room : c.room ≡ (session_end w (at_first c.start) c.calls).room
+  pub claims : c.claims ≡ (session_end w (at_first c.start) c.calls).purse
+
 module _ {P T F Q : Type 0} where
   -- The calls that are made: all but the collectings whose claim is not held.
   abbrev pub made_of : World P T F Q → Start P Q → List (Call T) → List (Call T)
@@ -55,3 +61,7 @@ module _ {P T F Q : Type 0} where
     -- The laws of the session hold, of the calls as they were handed in, with the collectings whose claim is not held: what a
     -- member may learn of them.
     pub session_laws : LawsOfSession w (at_first c.start) c.calls
+
+-- Calls that were carried out as the model has them keep the whole promise.
+abbrev pub ModelKeepsThePromise : {P T F Q : Type 0} → World P T F Q → Type 0
+ModelKeepsThePromise {P} {T} {F} {Q} w = (c : Carried P T F Q) → Modelled w c → WholePromise w c

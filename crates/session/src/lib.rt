@@ -4,9 +4,7 @@
 pub mod answers;
 pub mod calls;
 pub mod desk;
-pub mod handed;
 pub mod laws;
 mod lists;
 mod purse;
-pub mod run;
-mod session;
+pub mod session;

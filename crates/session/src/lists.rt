@@ -1,6 +1,6 @@
-// The lists of rows that are kept for the collectings of a run.
-ghost use Rattle.std.specs.Prelude.{◌≡◌, ◌+◌, ◌≤◌, length, OnOk, IfOk};
-ghost use Rattle.session.specs.Memory.{collectings_in};
+// The lists of rows that are kept for collectings to come.
+ghost use Rattle.std.specs.Prelude.{◌≡◌, ◌+◌, ◌≤◌, length, OnOk};
+ghost use Rattle.session.specs.Memory.{collectings_in, lists_for};
 
 use crate::calls::Call;
 use allocation::fill::{FillRow, LEAST_ROWS};
@@ -34,24 +34,35 @@ impl RowLists {
         }
     }
 
-    // One for each of the calls that collect.
-    pub(crate) fn for_calls<T>(heap: Global, calls: &[Call<T>]) -> Result<RowLists, AllocError>
-        ensures { IfOk result (λ kept. collectings_in calls.now ≤ kept) }
-    {
-        let mut kept = RowLists::new(heap);
-        for call in calls {
-            if call.is_collecting() {
-                kept.add(heap)?;
-            }
-        }
-        Ok(kept)
-    }
-
-    pub(crate) fn add(&mut self, heap: Global) -> Result<(), AllocError>
+    fn add(&mut self, heap: Global) -> Result<(), AllocError>
         ensures { OnOk result (self.new ≡ self.old + 1) }
     {
         let list = Vec::with_capacity(heap, LEAST_ROWS)?;
         self.lists.push(list)?;
+        Ok(())
+    }
+
+    // One more for a call that collects.
+    pub(crate) fn add_for<T>(&mut self, heap: Global, call: &Call<T>) -> Result<(), AllocError>
+        ensures { OnOk result (self.new ≡ self.old + lists_for call.now) }
+    {
+        if call.is_collecting() {
+            self.add(heap)?;
+        }
+        Ok(())
+    }
+
+    // One more for each of the calls that collect.
+    pub(crate) fn add_for_all<T>(
+        &mut self,
+        heap: Global,
+        calls: &[Call<T>],
+    ) -> Result<(), AllocError>
+        ensures { OnOk result (collectings_in calls.now ≤ self.new) }
+    {
+        for call in calls {
+            self.add_for(heap, call)?;
+        }
         Ok(())
     }
 

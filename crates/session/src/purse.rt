@@ -54,12 +54,12 @@ impl Purse {
         claims
     }
 
-    // A place for one claim more.
-    pub(crate) fn reserve(&mut self) -> Result<(), AllocError>
-        ensures place { OnOk result (1 ≤ self.new.places) }
+    // Places for so many claims more.
+    pub(crate) fn reserve(&mut self, places: usize) -> Result<(), AllocError>
+        ensures places { OnOk result (places ≤ self.new.places) }
         ensures numbers { self.new.numbers ≡ self.old.numbers }
     {
-        self.claims.try_reserve(1)
+        self.claims.try_reserve(places)
     }
 
     // Takes out the first claim of these numbers; where there is none, the purse is as it was.

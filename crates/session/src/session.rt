@@ -1,7 +1,9 @@
-// A session in code: calls on a room, with a purse of claims.
-ghost use Rattle.std.specs.Prelude.{◌≡◌, ◌+◌, ◌≤◌, [], ◌∷◌, ◌++◌, map, vec_len, vec_capacity, OnOk};
+// A session: a room, and a purse of claims that are handed in to it. Calls are made one by one, or a list of them in one run.
+ghost use Rattle.std.specs.Prelude.{◌≡◌, ◌+◌, ◌≤◌, [], ◌∷◌, ◌++◌, length, map, vec_len, vec_capacity, vec_items, IfErr, IfOk, OnErr, OnOk};
+ghost use Rattle.room.specs.Rooms.{claim_numbers};
 ghost use Rattle.session.specs.declared.calls.Call.TheVariants.{Open, Collect};
 ghost use Rattle.session.specs.Made.{HasMemoryFor, MadeAsModelled, session_now, session_world};
+ghost use Rattle.session.specs.SessionRuns.{RunAsModelled};
 ghost use Rattle.session.specs.Sessions.{session_answers, session_end};
 ghost use Rattle.session.specs.Told.{told, told_result};
 
@@ -14,18 +16,45 @@ use allocation::ranking::Ranking;
 use interval::source::IntervalSource;
 use market::market::Market;
 use room::answers::ClaimNumbers;
+use room::claim::Claim;
 use room::refusal::Refusal;
 use room::requests::OpeningRequest;
 use room::room::Room;
 use std::alloc::{AllocError, Global};
 
-pub(crate) struct Session<M, R, S> {
+/// A room with a purse of claims, also of other rooms. Neither may be let go, so a session is taken apart at its end.
+pub struct Session<M, R, S> {
     pub(crate) room: Room<M, R, S>,
     pub(crate) purse: Purse,
     pub(crate) lists: RowLists,
 }
 
 impl<M: Market, R: Ranking, S: IntervalSource> Session<M, R, S> {
+    /// The session of a room, with these claims.
+    pub fn new(heap: Global, room: Room<M, R, S>, claims: Vec<Claim>) -> Session<M, R, S>
+        ensures room { result.room ≡ room }
+        ensures claims { result.purse.numbers ≡ map claim_numbers (vec_items claims) }
+    {
+        Session {
+            room,
+            purse: Purse::new(claims),
+            lists: RowLists::new(heap),
+        }
+    }
+
+    /// The room, and the claims that are still held.
+    pub fn into_parts(self) -> (Room<M, R, S>, Vec<Claim>)
+        ensures room { result.0 ≡ self.room }
+        ensures claims { map claim_numbers (vec_items result.1) ≡ self.purse.numbers }
+    {
+        let Session {
+            room,
+            purse,
+            lists: _,
+        } = self;
+        (room, purse.into_claims())
+    }
+
     // Takes the memory that a call can want.
     pub(crate) fn reserve_for(
         &mut self,
@@ -36,11 +65,25 @@ impl<M: Market, R: Ranking, S: IntervalSource> Session<M, R, S> {
         ensures room { self.new.room ≡ self.old.room }
         ensures claims { self.new.purse.numbers ≡ self.old.purse.numbers }
     {
-        self.purse.reserve()?;
-        if call.is_collecting() {
-            self.lists.add(heap)?;
-        }
-        Ok(())
+        self.purse.reserve(1)?;
+        self.lists.add_for(heap, call)
+    }
+
+    // Takes the memory that a run of these calls can want, and places for its answers. These come last: an answer may hold a fault
+    // that may not be let go, and then no list of answers may be let go, not even an empty one.
+    fn take_memory(
+        &mut self,
+        heap: Global,
+        calls: &[Call<M::Tick>],
+    ) -> Result<Vec<Answer<M::Fault>>, AllocError>
+        ensures memory { OnOk result (HasMemoryFor self.new calls.now) }
+        ensures answers { IfOk result (λ answers. (answers.items ≡ []) × (length calls.now ≤ vec_capacity answers)) }
+        ensures room { self.new.room ≡ self.old.room }
+        ensures claims { self.new.purse.numbers ≡ self.old.purse.numbers }
+    {
+        self.purse.reserve(calls.len())?;
+        self.lists.add_for_all(heap, calls)?;
+        Vec::with_capacity(heap, calls.len())
     }
 
     // Opens an auction and keeps the claim.
@@ -126,7 +169,7 @@ impl<M: Market, R: Ranking, S: IntervalSource> Session<M, R, S> {
     }
 
     // Carries out the calls, one after another.
-    pub(crate) fn play(&mut self, calls: Vec<Call<M::Tick>>, answers: &mut Vec<Answer<M::Fault>>)
+    fn play(&mut self, calls: Vec<Call<M::Tick>>, answers: &mut Vec<Answer<M::Fault>>)
     where
         M::Tick: Drop,
         requires memory { HasMemoryFor self.old calls.items }
@@ -138,5 +181,26 @@ impl<M: Market, R: Ranking, S: IntervalSource> Session<M, R, S> {
         for call in calls {
             answers.push_reserved(self.make_call(call));
         }
+    }
+
+    /// Carries out the calls in order, and answers each. All memory is taken before the first call: where it is wanting the
+    /// calls come back, none was made, and the room and the claims are as they were.
+    pub fn run(
+        &mut self,
+        heap: Global,
+        calls: Vec<Call<M::Tick>>,
+    ) -> Result<Vec<Answer<M::Fault>>, Vec<Call<M::Tick>>>
+    where
+        M::Tick: Drop,
+        ensures run { IfOk result (λ answers. RunAsModelled M.Market.told M.Market.position S.IntervalSource.position (session_world M.Market.meaning S.IntervalSource.meaning R.Ranking.ahead self.old) self.old self.new (vec_items calls) (vec_items answers)) }
+        ensures calls_back { IfErr result (λ back. back ≡ calls) }
+        ensures room_back { OnErr result (self.new.room ≡ self.old.room) }
+        ensures claims_back { OnErr result (self.new.purse.numbers ≡ self.old.purse.numbers) }
+    {
+        let Ok(mut answers) = self.take_memory(heap, &calls) else {
+            return Err(calls);
+        };
+        self.play(calls, &mut answers);
+        Ok(answers)
     }
 }

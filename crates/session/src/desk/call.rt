@@ -1,20 +1,37 @@
-// Making calls at a desk.
-ghost use Rattle.std.specs.Prelude.{◌≡◌, IfOk, OnOk, OnErr};
+// Making a desk, and calls at it.
+ghost use Rattle.std.specs.Prelude.{◌≡◌, IfOk, OnErr, OnOk};
 ghost use Rattle.room.specs.Rooms.{state_of, world_of};
+ghost use Rattle.room.specs.State.{new_room};
 ghost use Rattle.session.specs.Desks.{desk_after, desk_answer};
 ghost use Rattle.session.specs.Told.{told};
 
 use super::Desk;
 use crate::answers::Answer;
 use crate::calls::Call;
+use crate::session::Session;
 use allocation::ranking::Ranking;
 use interval::source::IntervalSource;
 use market::market::Market;
+use room::room::Room;
 use std::alloc::{AllocError, Global};
 
 impl<M: Market, R: Ranking, S: IntervalSource> Desk<M, R, S> {
-    // Makes a call. A collecting hands in the claim of its numbers, if that is one to an auction of this room. Where memory is
-    // wanting, no call was made.
+    /// A desk with a new room, which holds no auction.
+    pub fn new(heap: Global, number: u32, market: M, ranking: R, source: S) -> Self
+        ensures state { state_of M.Market.position S.IntervalSource.position result.session.room ≡ new_room number (M.Market.position market) (S.IntervalSource.position source) }
+        ensures ranking { result.session.room.ranking ≡ ranking }
+    {
+        Desk {
+            session: Session::new(
+                heap,
+                Room::new(number, market, ranking, source),
+                Vec::new(heap),
+            ),
+        }
+    }
+
+    /// Makes a call. A collecting hands in the claim of its numbers, if that is one to an auction of this room. Where memory is
+    /// wanting, no call was made.
     pub fn call(
         &mut self,
         heap: Global,

@@ -17,7 +17,7 @@ use room::claim::Claim;
 use room::room::Room;
 
 impl ClosedAuction {
-    // The rows that were written.
+    /// The rows that were written.
     pub fn rows(&self) -> &[FillRow]
         ensures { result.now ≡ (closed_told self.now).rows }
     {
@@ -52,7 +52,7 @@ fn collect_first<M: Market, R: Ranking, S: IntervalSource>(
 }
 
 impl<M: Market, R: Ranking, S: IntervalSource> Desk<M, R, S> {
-    // Halts the room at its own time, and collects each auction that then waits.
+    /// Halts the room at its own time, and collects each auction that then waits.
     pub fn close(self) -> Closed<M, R, S>
         ensures as_calls { ClosedByCalls (world_of M.Market.meaning S.IntervalSource.meaning (R.Ranking.ahead self.session.room.ranking)) (state_of M.Market.position S.IntervalSource.position self.session.room) (listed_told result.first result.second) (state_of M.Market.position S.IntervalSource.position result.room) }
         ensures told { listed_told result.first result.second ≡ told_at_close (world_of M.Market.meaning S.IntervalSource.meaning (R.Ranking.ahead self.session.room.ranking)) (state_of M.Market.position S.IntervalSource.position self.session.room) }
