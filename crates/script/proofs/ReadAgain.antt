@@ -1,5 +1,5 @@
 -- Each statement's words are read as the statement.
-use Rattle.std.proofs.Common.{◌≡◌, ℕ, ◌<◌, ◌^◌, true, List, [], ◌∷◌, ℤ, Ok, Some, None, refl, ap, drop, ◌∙◌, arith}
+use Rattle.std.proofs.Common.{◌≡◌, ℕ, ◌<◌, ◌^◌, true, List, [], ◌∷◌, ℤ, Ok, Some, None, refl, sym, ap, drop, ◌∙◌, arith}
 use Rattle.std.specs.Prelude.{Result, Option}
 use Rattle.std.specs.Fmt.{decimal, signed_decimal}
 use Rattle.std.specs.List.{list_all}
@@ -27,20 +27,21 @@ use Rattle.script.specs.declared.misread.Misread.{Misread}
 use Rattle.script.specs.declared.read.named.HalfName.TheVariants as half
 use Rattle.script.specs.declared.read.named.SourceName.TheVariants as source
 use Rattle.script.specs.declared.read.named.SourceName.{SourceName}
-use Rattle.script.specs.declared.statement.CallStatement.TheVariants as call
 use Rattle.script.specs.declared.statement.IntervalTerms.{IntervalTerms}
 use Rattle.script.specs.declared.statement.IntervalTerms.TheVariants.{Fixed, Drawn}
 use Rattle.script.specs.declared.statement.Setting.TheVariants as setting
 use Rattle.script.specs.declared.statement.Statement.{Statement}
 use Rattle.script.specs.declared.statement.Statement.TheVariants as statement
+use Rattle.room.specs.declared.answers.ClaimNumbers.{ClaimNumbers}
 use Rattle.room.specs.declared.requests.OpeningRequest.{OpeningRequest}
 use Rattle.room.specs.declared.requests.ResponseRequest.{ResponseRequest}
 use Rattle.room.specs.declared.requests.ChangeRequest.{ChangeRequest}
 use Rattle.room.specs.declared.requests.WithdrawRequest.{WithdrawRequest}
 use Rattle.market.specs.declared.legs.leg.LegTerms.{LegTerms}
 use Rattle.script.specs.declared.statement.RangeQuestion.{RangeQuestion}
+use Rattle.session.specs.declared.calls.Call.TheVariants as call
 use Rattle.script.specs.Grammar.{room, leg, ranking, interval, interval_of, tick, tick_of, open_auction, respond, change, withdraw, halt, resume, clock, collect, range, statement_after, whole, said, statement_in}
-use Rattle.script.specs.Held.{Held, CallHeld, TickHeld, BookPriceHeld, IntervalHeld}
+use Rattle.script.specs.Held.{Held, CallHeld, TickHeld, BookPriceHeld, IntervalHeld, PriceHeld}
 use Rattle.script.specs.Parts.{side_named, ranking_named, guarantee_named, kind_named, class_named, book_price_named}
 use Rattle.script.specs.Readers.{Word, go_on, one_of}
 use Rattle.script.specs.Texts.{kind_text}
@@ -71,9 +72,9 @@ ranking_again : (s : ChosenRanking) (ws : List Word) → one_of ranking_named ex
 ranking_again Arrival ws = refl
 ranking_again Size ws = refl
 
-opening_again : (x : OpeningRequest) → CallHeld (call.Open x) → open_auction (opening_words x) ≡ Ok (statement.Call (call.Open x), [])
+opening_again : (n : ℕ) (x : OpeningRequest) → CallHeld n (call.Open x) → open_auction (opening_words x) ≡ Ok (statement.Call (call.Open x), [])
 unfolding open_auction
-opening_again x (time, member, size, limit, price) =
+opening_again n x (time, member, size, limit, price) =
     then _ x.time _ (number_again 64 x.time expected.Time _ time time)
     (then _ x.member _ (number_again 8 x.member expected.Member _ member (omega arith))
     (then _ x.order.side _ (side_again x.order.side _)
@@ -82,9 +83,9 @@ opening_again x (time, member, size, limit, price) =
     (then _ x.order.guarantee.kind _ (guarantee_again x.order.guarantee.kind _)
     (then _ x.order.guarantee.price _ (price_again x.order.guarantee.price expected.Price _ price) refl))))))
 
-response_again : (x : ResponseRequest) → CallHeld (call.Respond x) → respond (response_words x) ≡ Ok (statement.Call (call.Respond x), [])
+response_again : (n : ℕ) (x : ResponseRequest) → CallHeld n (call.Respond x) → respond (response_words x) ≡ Ok (statement.Call (call.Respond x), [])
 unfolding respond
-response_again x (time, member, own, size, price) =
+response_again n x (time, member, own, size, price) =
     then _ x.time _ (number_again 64 x.time expected.Time _ time time)
     (then _ x.member _ (number_again 8 x.member expected.Member _ member (omega arith))
     (then _ x.own _ (number_again 8 x.own expected.OwnNumber _ own (omega arith))
@@ -94,18 +95,18 @@ response_again x (time, member, own, size, price) =
     (then _ x.size _ (number_again 32 x.size expected.Size _ size (omega arith))
     (then _ x.price _ (price_again x.price expected.Price _ price) refl)))))))
 
-change_again : (x : ChangeRequest) → CallHeld (call.Change x) → change (drop 1 (call_words (call.Change x))) ≡ Ok (statement.Call (call.Change x), [])
+change_again : (n : ℕ) (x : ChangeRequest) → CallHeld n (call.Change x) → change (drop 1 (call_words (call.Change x))) ≡ Ok (statement.Call (call.Change x), [])
 unfolding change
-change_again x (time, member, own, size, price) =
+change_again n x (time, member, own, size, price) =
     then _ x.time _ (number_again 64 x.time expected.Time _ time time)
     (then _ x.member _ (number_again 8 x.member expected.Member _ member (omega arith))
     (then _ x.own _ (number_again 8 x.own expected.OwnNumber _ own (omega arith))
     (then _ x.size _ (number_again 32 x.size expected.Size _ size (omega arith))
     (then _ x.price _ (price_again x.price expected.Price _ price) refl))))
 
-withdrawal_again : (x : WithdrawRequest) → CallHeld (call.Withdraw x) → withdraw (drop 1 (call_words (call.Withdraw x))) ≡ Ok (statement.Call (call.Withdraw x), [])
+withdrawal_again : (n : ℕ) (x : WithdrawRequest) → CallHeld n (call.Withdraw x) → withdraw (drop 1 (call_words (call.Withdraw x))) ≡ Ok (statement.Call (call.Withdraw x), [])
 unfolding withdraw
-withdrawal_again x (time, member, own) =
+withdrawal_again n x (time, member, own) =
     then _ x.time _ (number_again 64 x.time expected.Time _ time time)
     (then _ x.member _ (number_again 8 x.member expected.Member _ member (omega arith))
     (then _ x.own _ (number_again 8 x.own expected.OwnNumber _ own (omega arith)) refl))
@@ -125,10 +126,10 @@ leg_tick_again x (number, bid, offer) =
     (then _ x.quote.bid _ (price_again x.quote.bid expected.Bid _ bid)
     (then _ x.quote.offer _ (price_again x.quote.offer expected.Offer _ offer) refl))
 
-tick_again : (time : ℕ) (x : Half Quote LegTick) → CallHeld (call.Tick time x) → tick (drop 1 (call_words (call.Tick time x))) ≡ Ok (statement.Call (call.Tick time x), [])
+tick_again : (n : ℕ) (time : ℕ) (x : Half Quote LegTick) → CallHeld n (call.Tick time x) → tick (drop 1 (call_words (call.Tick time x))) ≡ Ok (statement.Call (call.Tick time x), [])
 unfolding tick
-tick_again time (Left q) (t, held) = then _ time _ (number_again 64 time expected.Time _ t t) (then _ (Left q) _ (book_tick_again q held) refl)
-tick_again time (Right x) (t, held) = then _ time _ (number_again 64 time expected.Time _ t t) (then _ (Right x) _ (leg_tick_again x held) refl)
+tick_again n time (Left q) (t, held) = then _ time _ (number_again 64 time expected.Time _ t t) (then _ (Left q) _ (book_tick_again q held) refl)
+tick_again n time (Right x) (t, held) = then _ time _ (number_again 64 time expected.Time _ t t) (then _ (Right x) _ (leg_tick_again x held) refl)
 
 halt_again : (time : ℕ) → time < 2 ^ 64 → halt (decimal time ∷ []) ≡ Ok (statement.Call (call.Halt time), [])
 unfolding halt
@@ -142,11 +143,11 @@ clock_again : (time : ℕ) → time < 2 ^ 64 → clock (decimal time ∷ []) ≡
 unfolding clock
 clock_again time h = then _ time _ (number_again 64 time expected.Time _ h h) refl
 
-collecting_again : (auction rows : ℕ) → CallHeld (call.Collect auction rows) → collect (decimal auction ∷ decimal rows ∷ []) ≡ Ok (statement.Call (call.Collect auction rows), [])
+collecting_again : (n : ℕ) (c : ClaimNumbers) (rows : ℕ) → CallHeld n (call.Collect c rows) → collect n (decimal c.auction ∷ decimal rows ∷ []) ≡ Ok (statement.Call (call.Collect c rows), [])
 unfolding collect
-collecting_again auction rows (a, r) =
-    then _ auction _ (number_again 32 auction expected.Auction _ a (omega arith))
-    (then _ rows _ (number_again 64 rows expected.Rows _ r r) refl)
+collecting_again n c rows (same, a, r) =
+    then _ c.auction _ (number_again 32 c.auction expected.Auction _ a (omega arith))
+    (then _ rows _ (number_again 64 rows expected.Rows _ r r) (ap (λ room. Ok (statement.Call (call.Collect (record { room = room; auction = c.auction }) rows), [])) (sym same)))
 
 room_again : (number : ℕ) → number < 2 ^ 32 → room (decimal number ∷ []) ≡ Ok (statement.Setting (setting.Room number), [])
 unfolding room
@@ -176,30 +177,30 @@ unfolding interval
 interval_again (Fixed n) h = then _ (Fixed n) _ (interval_of_again (Fixed n) h) refl
 interval_again (Drawn n) h = then _ (Drawn n) _ (interval_of_again (Drawn n) h) refl
 
-range_again : (q : RangeQuestion) → Held (statement.Range q) → range (side_name q.side ∷ signed_decimal q.limit ∷ []) ≡ Ok (statement.Range q, [])
+range_again : (q : RangeQuestion) → PriceHeld q.limit → range (side_name q.side ∷ signed_decimal q.limit ∷ []) ≡ Ok (statement.Range q, [])
 unfolding range
 range_again q h =
     then _ q.side _ (side_again q.side _)
     (then _ q.limit _ (price_again q.limit expected.Limit _ h) refl)
 
 -- The words of a statement say it.
-pub said_again : (s : Statement) → Held s → said (statement_words s) ≡ Ok (Some s)
+pub said_again : (number : ℕ) (s : Statement) → Held number s → said number (statement_words s) ≡ Ok (Some s)
 unfolding statement_after
-said_again (statement.Setting (setting.Room n)) h = ap whole (room_again n h)
-said_again (statement.Setting (setting.Leg x)) h = ap whole (leg_again x h)
-said_again (statement.Setting (setting.Ranking r)) h = ap whole (ranking_told_again r)
-said_again (statement.Setting (setting.Interval x)) h = ap whole (interval_again x h)
-said_again (statement.Call (call.Open x)) h = ap whole (opening_again x h)
-said_again (statement.Call (call.Respond x)) h = ap whole (response_again x h)
-said_again (statement.Call (call.Change x)) h = ap whole (change_again x h)
-said_again (statement.Call (call.Withdraw x)) h = ap whole (withdrawal_again x h)
-said_again (statement.Call (call.Tick time x)) h = ap whole (tick_again time x h)
-said_again (statement.Call (call.Halt time)) h = ap whole (halt_again time h)
-said_again (statement.Call (call.Resume time)) h = ap whole (resume_again time h)
-said_again (statement.Call (call.Clock time)) h = ap whole (clock_again time h)
-said_again (statement.Call call.Look) h = refl
-said_again (statement.Call (call.Collect auction rows)) h = ap whole (collecting_again auction rows h)
-said_again (statement.Range q) h = ap whole (range_again q h)
+said_again number (statement.Setting (setting.Room n)) h = ap whole (room_again n h)
+said_again number (statement.Setting (setting.Leg x)) h = ap whole (leg_again x h)
+said_again number (statement.Setting (setting.Ranking r)) h = ap whole (ranking_told_again r)
+said_again number (statement.Setting (setting.Interval x)) h = ap whole (interval_again x h)
+said_again number (statement.Call (call.Open x)) h = ap whole (opening_again number x h)
+said_again number (statement.Call (call.Respond x)) h = ap whole (response_again number x h)
+said_again number (statement.Call (call.Change x)) h = ap whole (change_again number x h)
+said_again number (statement.Call (call.Withdraw x)) h = ap whole (withdrawal_again number x h)
+said_again number (statement.Call (call.Tick time x)) h = ap whole (tick_again number time x h)
+said_again number (statement.Call (call.Halt time)) h = ap whole (halt_again time h)
+said_again number (statement.Call (call.Resume time)) h = ap whole (resume_again time h)
+said_again number (statement.Call (call.Clock time)) h = ap whole (clock_again time h)
+said_again number (statement.Call call.Look) h = refl
+said_again number (statement.Call (call.Collect c rows)) h = ap whole (collecting_again number c rows h)
+said_again number (statement.Range q) h = ap whole (range_again q h)
 
 -- The words of a statement are plain.
 plain_book_price : (z : Option ℤ) → BookPriceHeld z → plain (book_price_word z) ≡ true
@@ -235,30 +236,30 @@ plain_tick (Left q) (bid, offer) = and_true refl (and_true (plain_book_price q.b
 plain_tick (Right x) (number, bid, offer) =
     and_true refl (and_true (plain_decimal x.leg (omega arith)) (and_true (plain_signed x.quote.bid bid) (and_true (plain_signed x.quote.offer offer) refl)))
 
-plain_words : (s : Statement) → Held s → list_all plain (statement_words s) ≡ true
-plain_words (statement.Setting (setting.Room n)) h = and_true refl (and_true (plain_decimal n (omega arith)) refl)
-plain_words (statement.Setting (setting.Leg x)) h = and_true refl (and_true (plain_side x.side) (and_true (plain_decimal x.ratio (omega arith)) refl))
-plain_words (statement.Setting (setting.Ranking r)) h = and_true refl (and_true (plain_ranking r) refl)
-plain_words (statement.Setting (setting.Interval x)) h = and_true refl (plain_interval x h)
-plain_words (statement.Call (call.Open x)) (time, member, size, limit, price) =
+plain_words : (number : ℕ) (s : Statement) → Held number s → list_all plain (statement_words s) ≡ true
+plain_words number (statement.Setting (setting.Room n)) h = and_true refl (and_true (plain_decimal n (omega arith)) refl)
+plain_words number (statement.Setting (setting.Leg x)) h = and_true refl (and_true (plain_side x.side) (and_true (plain_decimal x.ratio (omega arith)) refl))
+plain_words number (statement.Setting (setting.Ranking r)) h = and_true refl (and_true (plain_ranking r) refl)
+plain_words number (statement.Setting (setting.Interval x)) h = and_true refl (plain_interval x h)
+plain_words number (statement.Call (call.Open x)) (time, member, size, limit, price) =
     and_true refl (and_true (plain_decimal x.time time) (and_true (plain_decimal x.member (omega arith)) (and_true (plain_side x.order.side) (and_true (plain_decimal x.order.size (omega arith))
     (and_true refl (and_true (plain_signed x.order.limit limit) (and_true (plain_guarantee x.order.guarantee.kind) (and_true (plain_signed x.order.guarantee.price price) refl))))))))
-plain_words (statement.Call (call.Respond x)) (time, member, own, size, price) =
+plain_words number (statement.Call (call.Respond x)) (time, member, own, size, price) =
     and_true refl (and_true (plain_decimal x.time time) (and_true (plain_decimal x.member (omega arith)) (and_true (plain_decimal x.own (omega arith)) (and_true (plain_side x.side)
     (and_true (plain_kind x.kind) (and_true (plain_class x.class) (and_true (plain_decimal x.size (omega arith)) (and_true refl (and_true (plain_signed x.price price) refl)))))))))
-plain_words (statement.Call (call.Change x)) (time, member, own, size, price) =
+plain_words number (statement.Call (call.Change x)) (time, member, own, size, price) =
     and_true refl (and_true (plain_decimal x.time time) (and_true (plain_decimal x.member (omega arith)) (and_true (plain_decimal x.own (omega arith))
     (and_true (plain_decimal x.size (omega arith)) (and_true refl (and_true (plain_signed x.price price) refl))))))
-plain_words (statement.Call (call.Withdraw x)) (time, member, own) =
+plain_words number (statement.Call (call.Withdraw x)) (time, member, own) =
     and_true refl (and_true (plain_decimal x.time time) (and_true (plain_decimal x.member (omega arith)) (and_true (plain_decimal x.own (omega arith)) refl)))
-plain_words (statement.Call (call.Tick time x)) (t, held) = and_true refl (and_true (plain_decimal time t) (plain_tick x held))
-plain_words (statement.Call (call.Halt time)) h = and_true refl (and_true (plain_decimal time h) refl)
-plain_words (statement.Call (call.Resume time)) h = and_true refl (and_true (plain_decimal time h) refl)
-plain_words (statement.Call (call.Clock time)) h = and_true refl (and_true (plain_decimal time h) refl)
-plain_words (statement.Call call.Look) h = refl
-plain_words (statement.Call (call.Collect auction rows)) (a, r) = and_true refl (and_true (plain_decimal auction (omega arith)) (and_true (plain_decimal rows r) refl))
-plain_words (statement.Range q) h = and_true refl (and_true (plain_side q.side) (and_true (plain_signed q.limit h) refl))
+plain_words number (statement.Call (call.Tick time x)) (t, held) = and_true refl (and_true (plain_decimal time t) (plain_tick x held))
+plain_words number (statement.Call (call.Halt time)) h = and_true refl (and_true (plain_decimal time h) refl)
+plain_words number (statement.Call (call.Resume time)) h = and_true refl (and_true (plain_decimal time h) refl)
+plain_words number (statement.Call (call.Clock time)) h = and_true refl (and_true (plain_decimal time h) refl)
+plain_words number (statement.Call call.Look) h = refl
+plain_words number (statement.Call (call.Collect c rows)) (same, a, r) = and_true refl (and_true (plain_decimal c.auction (omega arith)) (and_true (plain_decimal rows r) refl))
+plain_words number (statement.Range q) h = and_true refl (and_true (plain_side q.side) (and_true (plain_signed q.limit h) refl))
 
 -- The text of a statement is read as the statement.
-pub statement_again : (s : Statement) → Held s → statement_in (statement_text s) ≡ Ok (Some s)
-statement_again s h = ap said (line_words-spaced (statement_words s) (plain_words s h)) ∙ said_again s h
+pub statement_again : (number : ℕ) (s : Statement) → Held number s → statement_in number (statement_text s) ≡ Ok (Some s)
+statement_again number s h = ap (said number) (line_words-spaced (statement_words s) (plain_words number s h)) ∙ said_again number s h

@@ -13,7 +13,6 @@ use Rattle.script.specs.declared.read.named.HalfName.TheVariants as half
 use Rattle.script.specs.declared.read.named.HalfName.{HalfName}
 use Rattle.script.specs.declared.read.named.SourceName.TheVariants as source
 use Rattle.script.specs.declared.read.named.SourceName.{SourceName}
-use Rattle.script.specs.declared.statement.CallStatement.TheVariants as call
 use Rattle.script.specs.declared.statement.IntervalTerms.TheVariants as terms
 use Rattle.script.specs.declared.statement.IntervalTerms.{IntervalTerms}
 use Rattle.script.specs.declared.statement.Setting.TheVariants as setting
@@ -22,6 +21,7 @@ use Rattle.script.specs.declared.statement.Statement.{Statement}
 use Rattle.script.specs.Parts.{side_named, ranking_named, source_named, half_named, guarantee_named, kind_named, class_named, at_named, book_price_named}
 use Rattle.script.specs.Readers.{Word, Reader, ◌>>=◌, give, give_up, a_number, optional_number, a_price, one_of}
 use Rattle.script.specs.Words.{line_words}
+use Rattle.session.specs.declared.calls.Call.TheVariants as call
 
 -- room NUMBER
 unfoldable pub room : Reader Statement
@@ -142,12 +142,13 @@ clock = do
   time ← a_number 64 expected.Time
   give (Call (call.Clock time))
 
--- collect AUCTION, collect AUCTION ROWS: 129 rows where none are given
-unfoldable pub collect : Reader Statement
-collect = do
+-- collect AUCTION, collect AUCTION ROWS: 129 rows where none are given. The claim is one of the script's room, which has this
+-- number.
+unfoldable pub collect : ℕ → Reader Statement
+collect number = do
   auction ← a_number 32 expected.Auction
   rows ← optional_number 64 expected.Rows 129
-  give (Call (call.Collect auction rows))
+  give (Call (call.Collect (record { room = number; auction = auction }) rows))
 
 -- range buy|sell LIMIT
 unfoldable pub range : Reader Statement
@@ -157,8 +158,8 @@ range = do
   give (Range (record { side = side; limit = limit }))
 
 -- What follows a statement's first word; `look` is whole by itself.
-unfoldable pub statement_after : Word → Reader Statement
-statement_after w =
+unfoldable pub statement_after : ℕ → Word → Reader Statement
+statement_after number w =
     if bytes_eq w (codes "room") then room
     else (if bytes_eq w (codes "leg") then leg
     else (if bytes_eq w (codes "ranking") then ranking
@@ -172,7 +173,7 @@ statement_after w =
     else (if bytes_eq w (codes "resume") then resume
     else (if bytes_eq w (codes "clock") then clock
     else (if bytes_eq w (codes "look") then give (Call call.Look)
-    else (if bytes_eq w (codes "collect") then collect
+    else (if bytes_eq w (codes "collect") then collect number
     else (if bytes_eq w (codes "range") then range
     else give_up (Unknown expected.Statement)))))))))))))))
 
@@ -182,11 +183,11 @@ whole (Ok (s, [])) = Ok (Some s)
 whole (Ok (s, w ∷ ws)) = Err Surplus
 whole (Err e) = Err e
 
--- What these words say; no words say nothing.
-abbrev pub said : List Word → Result (Option Statement) Misread
-said [] = Ok None
-said (w ∷ ws) = whole (statement_after w ws)
+-- What these words say in a script of the room of this number; no words say nothing.
+abbrev pub said : ℕ → List Word → Result (Option Statement) Misread
+said number [] = Ok None
+said number (w ∷ ws) = whole (statement_after number w ws)
 
--- What a line says.
-abbrev pub statement_in : List ℕ → Result (Option Statement) Misread
-statement_in line = said (line_words line)
+-- What a line says there.
+abbrev pub statement_in : ℕ → List ℕ → Result (Option Statement) Misread
+statement_in number line = said number (line_words line)

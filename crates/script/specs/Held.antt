@@ -1,18 +1,19 @@
--- Which statements there are in code: their numbers are such as the words of their types hold.
-use Rattle.std.specs.Prelude.{◌<◌, ◌^◌, ℤ, Option, Some, None, FitsSigned}
+-- Which statements there are in code, in the script of a room: their numbers are such as the words of their types hold, and a
+-- collecting is one of that room.
+use Rattle.std.specs.Prelude.{◌≡◌, ℕ, ◌<◌, ◌^◌, ℤ, Option, Some, None, FitsSigned}
 use Rattle.std.specs.Int.{w64}
 use Rattle.market.specs.declared.better_of.Half.{Half}
 use Rattle.market.specs.declared.better_of.Half.TheVariants.{Left, Right}
 use Rattle.market.specs.declared.legs.leg.LegTick.{LegTick}
 use Rattle.market.specs.declared.quote.Quote.{Quote}
-use Rattle.script.specs.declared.statement.CallStatement.{CallStatement}
-use Rattle.script.specs.declared.statement.CallStatement.TheVariants as call
 use Rattle.script.specs.declared.statement.IntervalTerms.{IntervalTerms}
 use Rattle.script.specs.declared.statement.IntervalTerms.TheVariants.{Fixed, Drawn}
 use Rattle.script.specs.declared.statement.Setting.TheVariants as setting
 use Rattle.script.specs.declared.statement.Setting.{Setting}
 use Rattle.script.specs.declared.statement.Statement.{Statement}
 use Rattle.script.specs.declared.statement.Statement.TheVariants as statement
+use Rattle.session.specs.declared.calls.Call.{Call}
+use Rattle.session.specs.declared.calls.Call.TheVariants as call
 
 -- A price is in 64 bits with a sign.
 abbrev pub PriceHeld : ℤ → Type 0
@@ -36,19 +37,19 @@ abbrev pub TickHeld : Half Quote LegTick → Type 0
 TickHeld (Left q) = BookPriceHeld q.bid × BookPriceHeld q.offer
 TickHeld (Right t) = (t.leg < 2 ^ 32) × PriceHeld t.quote.bid × PriceHeld t.quote.offer
 
-abbrev pub CallHeld : CallStatement → Type 0
-CallHeld (call.Open x) = (x.time < 2 ^ 64) × (x.member < 2 ^ 8) × (x.order.size < 2 ^ 32) × PriceHeld x.order.limit × PriceHeld x.order.guarantee.price
-CallHeld (call.Respond x) = (x.time < 2 ^ 64) × (x.member < 2 ^ 8) × (x.own < 2 ^ 8) × (x.size < 2 ^ 32) × PriceHeld x.price
-CallHeld (call.Change x) = (x.time < 2 ^ 64) × (x.member < 2 ^ 8) × (x.own < 2 ^ 8) × (x.size < 2 ^ 32) × PriceHeld x.price
-CallHeld (call.Withdraw x) = (x.time < 2 ^ 64) × (x.member < 2 ^ 8) × (x.own < 2 ^ 8)
-CallHeld (call.Tick time tick) = (time < 2 ^ 64) × TickHeld tick
-CallHeld (call.Halt time) = time < 2 ^ 64
-CallHeld (call.Resume time) = time < 2 ^ 64
-CallHeld (call.Clock time) = time < 2 ^ 64
-CallHeld call.Look = Unit {0}
-CallHeld (call.Collect auction rows) = (auction < 2 ^ 32) × (rows < 2 ^ 64)
+abbrev pub CallHeld : ℕ → Call (Half Quote LegTick) → Type 0
+CallHeld room (call.Open x) = (x.time < 2 ^ 64) × (x.member < 2 ^ 8) × (x.order.size < 2 ^ 32) × PriceHeld x.order.limit × PriceHeld x.order.guarantee.price
+CallHeld room (call.Respond x) = (x.time < 2 ^ 64) × (x.member < 2 ^ 8) × (x.own < 2 ^ 8) × (x.size < 2 ^ 32) × PriceHeld x.price
+CallHeld room (call.Change x) = (x.time < 2 ^ 64) × (x.member < 2 ^ 8) × (x.own < 2 ^ 8) × (x.size < 2 ^ 32) × PriceHeld x.price
+CallHeld room (call.Withdraw x) = (x.time < 2 ^ 64) × (x.member < 2 ^ 8) × (x.own < 2 ^ 8)
+CallHeld room (call.Tick time tick) = (time < 2 ^ 64) × TickHeld tick
+CallHeld room (call.Halt time) = time < 2 ^ 64
+CallHeld room (call.Resume time) = time < 2 ^ 64
+CallHeld room (call.Clock time) = time < 2 ^ 64
+CallHeld room call.Look = Unit {0}
+CallHeld room (call.Collect c rows) = (c.room ≡ room) × (c.auction < 2 ^ 32) × (rows < 2 ^ 64)
 
-abbrev pub Held : Statement → Type 0
-Held (statement.Setting s) = SettingHeld s
-Held (statement.Call c) = CallHeld c
-Held (statement.Range q) = PriceHeld q.limit
+abbrev pub Held : ℕ → Statement → Type 0
+Held room (statement.Setting s) = SettingHeld s
+Held room (statement.Call c) = CallHeld room c
+Held room (statement.Range q) = PriceHeld q.limit

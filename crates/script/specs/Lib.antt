@@ -1,5 +1,4 @@
 -- What a script says and what it is answered, a file a topic.
-pub mod Statements
 pub mod Chosen
 pub mod Words
 pub mod Numbers

@@ -1,5 +1,5 @@
 -- Setting up: what a script has told so far, what a setting is answered, and what the room is made of at the first call.
-use Rattle.std.specs.Prelude.{ℕ, Bool, true, false, cond, List, [], ◌∷◌, ◌++◌, length, nat_lt, is_ok, Option, Some, None, Result, Ok, Err}
+use Rattle.std.specs.Prelude.{ℕ, Bool, true, false, cond, List, [], ◌∷◌, ◌++◌, length, nat_lt, is_ok, unwrap_or, Option, Some, None, Result, Ok, Err}
 use Rattle.std.specs.Option.{option_map}
 use Rattle.std.specs.Result.{result_map_both}
 use Rattle.market.specs.declared.legs.leg.Leg.{Leg}
@@ -80,6 +80,10 @@ told_after t s = cond t.made t (taken (told_with t s))
     taken : Result Told ℕ → Told
     taken (Ok u) = u
     taken (Err e) = t
+
+-- The number of the script's room: 0 where none is told yet, for then no call is made.
+abbrev pub room_number : Told → ℕ
+room_number t = unwrap_or t.number 0
 
 -- What a room is made of.
 pub record RoomTold : Type 0 where

@@ -2,13 +2,12 @@
 use Rattle.std.specs.Prelude.{ℕ, Option, None}
 use Rattle.script.specs.declared.statement.Statement.{Statement}
 use Rattle.script.specs.declared.statement.Statement.TheVariants.{Setting, Call, Range}
-use Rattle.script.specs.Statements.{call_of}
 use Rattle.script.specs.Told.{CubeFaultTold}
 use Rattle.session.specs.Runs.{Answer}
 use Rattle.session.specs.Learning.{shown_of}
 
--- Of a call's answer what a run shows of it, whatever the room's number; of other statements nothing.
+-- Of a call's answer what a run shows of it; of other statements nothing.
 abbrev pub answer_shown : ℕ → Statement → Answer CubeFaultTold → Option (Answer CubeFaultTold)
 answer_shown member (Setting s) a = None
-answer_shown member (Call c) a = shown_of member (call_of 0 c) a
+answer_shown member (Call c) a = shown_of member c a
 answer_shown member (Range r) a = None

@@ -15,14 +15,14 @@ use Rattle.script.specs.Readers.{Word}
 use Rattle.script.specs.Texts.{kind_text}
 use Rattle.script.specs.declared.chosen.ChosenRanking.{ChosenRanking}
 use Rattle.script.specs.declared.chosen.ChosenRanking.TheVariants.{Arrival, Size}
-use Rattle.script.specs.declared.statement.CallStatement.{CallStatement}
-use Rattle.script.specs.declared.statement.CallStatement.TheVariants as call
 use Rattle.script.specs.declared.statement.IntervalTerms.{IntervalTerms}
 use Rattle.script.specs.declared.statement.IntervalTerms.TheVariants.{Fixed, Drawn}
 use Rattle.script.specs.declared.statement.Setting.TheVariants as setting
 use Rattle.script.specs.declared.statement.Setting.{Setting}
 use Rattle.script.specs.declared.statement.Statement.{Statement}
 use Rattle.script.specs.declared.statement.Statement.TheVariants as statement
+use Rattle.session.specs.declared.calls.Call.{Call}
+use Rattle.session.specs.declared.calls.Call.TheVariants as call
 
 -- Words with a blank between two.
 abbrev pub spaced : List Word → List ℕ
@@ -64,7 +64,8 @@ opening_words x = decimal x.time ∷ decimal x.member ∷ side_name x.order.side
 abbrev pub response_words : ResponseRequest → List Word
 response_words x = decimal x.time ∷ decimal x.member ∷ decimal x.own ∷ side_name x.side ∷ kind_text x.kind ∷ class_name x.class ∷ decimal x.size ∷ codes "@" ∷ signed_decimal x.price ∷ []
 
-abbrev pub call_words : CallStatement → List Word
+-- A collecting names its auction alone, since a script has one room.
+abbrev pub call_words : Call (Half Quote LegTick) → List Word
 call_words (call.Open x) = codes "open" ∷ opening_words x
 call_words (call.Respond x) = codes "respond" ∷ response_words x
 call_words (call.Change x) = codes "change" ∷ decimal x.time ∷ decimal x.member ∷ decimal x.own ∷ decimal x.size ∷ codes "@" ∷ signed_decimal x.price ∷ []
@@ -74,7 +75,7 @@ call_words (call.Halt time) = codes "halt" ∷ decimal time ∷ []
 call_words (call.Resume time) = codes "resume" ∷ decimal time ∷ []
 call_words (call.Clock time) = codes "clock" ∷ decimal time ∷ []
 call_words call.Look = codes "look" ∷ []
-call_words (call.Collect auction rows) = codes "collect" ∷ decimal auction ∷ decimal rows ∷ []
+call_words (call.Collect c rows) = codes "collect" ∷ decimal c.auction ∷ decimal rows ∷ []
 
 abbrev pub statement_words : Statement → List Word
 statement_words (statement.Setting s) = setting_words s

@@ -1,17 +1,18 @@
 // Writing statements: each as the line that says it.
-ghost use Rattle.std.specs.Prelude.{◌≡◌, Some, Ok};
+ghost use Rattle.std.specs.Prelude.{◌≡◌, ℕ, Some, Ok};
 ghost use Rattle.script.specs.declared.statement.Statement.{Statement};
 ghost use Rattle.script.specs.Grammar.{statement_in};
 ghost use Rattle.script.specs.Held.{Held};
 ghost use Rattle.script.specs.Writing.{spaced, ranking_name, guarantee_name, book_price_word, interval_words, setting_words, tick_words, opening_words, response_words, call_words, statement_text};
 
 use crate::chosen::ChosenRanking;
-use crate::statement::{CallStatement, IntervalTerms, RangeQuestion, Setting, Statement};
+use crate::statement::{IntervalTerms, RangeQuestion, Setting, Statement};
 use crate::transcript::rows::KindText;
 use allocation::order::GuaranteeKind;
 use market::better_of::Half;
 use market::cube::CubeTick;
 use room::requests::{ChangeRequest, OpeningRequest, ResponseRequest, WithdrawRequest};
+use session::calls::Call;
 use std::fmt;
 
 impl fmt::Display for ChosenRanking {
@@ -158,20 +159,24 @@ impl fmt::Display for ResponseText {
     }
 }
 
-impl fmt::Display for CallStatement {
-    ghost output = { λ x. Some (spaced (call_words x)) };
+// A call. A collecting names its auction alone, since a script has one room.
+#[derive(Clone, Copy)]
+struct CallText<'a>(&'a Call<CubeTick>);
+
+impl fmt::Display for CallText<'_> {
+    ghost output = { λ x. Some (spaced (call_words x.0.now)) };
 
     fn fmt<W: fmt::Write>(&self, f: &mut fmt::Formatter<W>) -> fmt::Result {
-        match self {
-            CallStatement::Open(request) => {
+        match self.0 {
+            Call::Open(request) => {
                 let opening = OpeningText(*request);
                 write!(f, "open {opening}")
             }
-            CallStatement::Respond(request) => {
+            Call::Respond(request) => {
                 let response = ResponseText(*request);
                 write!(f, "respond {response}")
             }
-            CallStatement::Change(request) => {
+            Call::Change(request) => {
                 let ChangeRequest {
                     time,
                     member,
@@ -181,19 +186,22 @@ impl fmt::Display for CallStatement {
                 } = *request;
                 write!(f, "change {time} {member} {own} {size} @ {price}")
             }
-            CallStatement::Withdraw(request) => {
+            Call::Withdraw(request) => {
                 let WithdrawRequest { time, member, own } = *request;
                 write!(f, "withdraw {time} {member} {own}")
             }
-            CallStatement::Tick { time, tick } => {
+            Call::Tick { time, tick } => {
                 let tick = TickText(tick);
                 write!(f, "tick {time} {tick}")
             }
-            CallStatement::Halt { time } => write!(f, "halt {time}"),
-            CallStatement::Resume { time } => write!(f, "resume {time}"),
-            CallStatement::Clock { time } => write!(f, "clock {time}"),
-            CallStatement::Look => f.write_str("look"),
-            CallStatement::Collect { auction, rows } => write!(f, "collect {auction} {rows}"),
+            Call::Halt { time } => write!(f, "halt {time}"),
+            Call::Resume { time } => write!(f, "resume {time}"),
+            Call::Clock { time } => write!(f, "clock {time}"),
+            Call::Look => f.write_str("look"),
+            Call::Collect { claim, rows } => {
+                let auction = claim.auction;
+                write!(f, "collect {auction} {rows}")
+            }
         }
     }
 }
@@ -204,7 +212,10 @@ impl fmt::Display for Statement {
     fn fmt<W: fmt::Write>(&self, f: &mut fmt::Formatter<W>) -> fmt::Result {
         match self {
             Statement::Setting(setting) => write!(f, "{setting}"),
-            Statement::Call(call) => write!(f, "{call}"),
+            Statement::Call(call) => {
+                let call = CallText(call);
+                write!(f, "{call}")
+            }
             Statement::Range(question) => {
                 let RangeQuestion { side, limit } = *question;
                 write!(f, "range {side} {limit}")
@@ -213,7 +224,7 @@ impl fmt::Display for Statement {
     }
 }
 
-// Each statement, written and read, is the statement again. It computes nothing.
+/// Each statement, written and read in the script of its room, is the statement again. It computes nothing.
 pub fn statements_read_again()
-    ensures { (s : Statement) → Held s → statement_in (statement_text s) ≡ Ok (Some s) }
+    ensures { (room : ℕ) (s : Statement) → Held room s → statement_in room (statement_text s) ≡ Ok (Some s) }
 {}

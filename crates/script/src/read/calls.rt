@@ -6,7 +6,7 @@ ghost use Rattle.script.specs.Grammar.{tick_of, tick, open_auction, respond, cha
 
 use super::named::HalfName;
 use crate::misread::{Expected, Misread};
-use crate::statement::{CallStatement, Statement};
+use crate::statement::Statement;
 use crate::words::Words;
 use allocation::fill::LEAST_ROWS;
 use allocation::order::{Guarantee, GuaranteeKind, PairedOrder};
@@ -16,7 +16,9 @@ use market::cube::CubeTick;
 use market::legs::leg::{LegQuote, LegTick};
 use market::quote::Quote;
 use market::side::Side;
+use room::answers::ClaimNumbers;
 use room::requests::{ChangeRequest, OpeningRequest, ResponseRequest, WithdrawRequest};
+use session::calls::Call;
 
 impl<'a> Words<'a> {
     fn time(&mut self) -> Result<u64, Misread>
@@ -51,7 +53,7 @@ impl<'a> Words<'a> {
         let time = self.time()?;
         let half: HalfName = self.one_of(Expected::Half)?;
         let tick = self.tick_of(half)?;
-        Ok(Statement::Call(CallStatement::Tick { time, tick }))
+        Ok(Statement::Call(Call::Tick { time, tick }))
     }
 
     #[tactic(auto, unfolding(crate::specs::Grammar::open_auction))]
@@ -73,7 +75,7 @@ impl<'a> Words<'a> {
             limit,
             guarantee,
         };
-        Ok(Statement::Call(CallStatement::Open(OpeningRequest {
+        Ok(Statement::Call(Call::Open(OpeningRequest {
             time,
             member,
             order,
@@ -93,7 +95,7 @@ impl<'a> Words<'a> {
         let size = self.u32(Expected::Size)?;
         self.at()?;
         let price = self.price(Expected::Price)?;
-        Ok(Statement::Call(CallStatement::Respond(ResponseRequest {
+        Ok(Statement::Call(Call::Respond(ResponseRequest {
             time,
             member,
             own,
@@ -115,7 +117,7 @@ impl<'a> Words<'a> {
         let size = self.u32(Expected::Size)?;
         self.at()?;
         let price = self.price(Expected::Price)?;
-        Ok(Statement::Call(CallStatement::Change(ChangeRequest {
+        Ok(Statement::Call(Call::Change(ChangeRequest {
             time,
             member,
             own,
@@ -131,7 +133,7 @@ impl<'a> Words<'a> {
         let time = self.time()?;
         let member = self.u8(Expected::Member)?;
         let own = self.u8(Expected::OwnNumber)?;
-        Ok(Statement::Call(CallStatement::Withdraw(WithdrawRequest { time, member, own })))
+        Ok(Statement::Call(Call::Withdraw(WithdrawRequest { time, member, own })))
     }
 
     #[tactic(auto, unfolding(crate::specs::Grammar::halt))]
@@ -139,7 +141,7 @@ impl<'a> Words<'a> {
         ensures { with_rest result self.new ≡ halt self.old }
     {
         let time = self.time()?;
-        Ok(Statement::Call(CallStatement::Halt { time }))
+        Ok(Statement::Call(Call::Halt { time }))
     }
 
     #[tactic(auto, unfolding(crate::specs::Grammar::resume))]
@@ -147,7 +149,7 @@ impl<'a> Words<'a> {
         ensures { with_rest result self.new ≡ resume self.old }
     {
         let time = self.time()?;
-        Ok(Statement::Call(CallStatement::Resume { time }))
+        Ok(Statement::Call(Call::Resume { time }))
     }
 
     #[tactic(auto, unfolding(crate::specs::Grammar::clock))]
@@ -155,17 +157,18 @@ impl<'a> Words<'a> {
         ensures { with_rest result self.new ≡ clock self.old }
     {
         let time = self.time()?;
-        Ok(Statement::Call(CallStatement::Clock { time }))
+        Ok(Statement::Call(Call::Clock { time }))
     }
 
+    // The claim is one of the script's room, which has this number.
     #[tactic(auto, unfolding(crate::specs::Grammar::collect))]
-    pub(crate) fn collect(&mut self) -> Result<Statement, Misread>
-        ensures { with_rest result self.new ≡ collect self.old }
+    pub(crate) fn collect(&mut self, room: u32) -> Result<Statement, Misread>
+        ensures { with_rest result self.new ≡ collect room self.old }
     {
         let auction = self.u32(Expected::Auction)?;
         let rows = self.optional_u64(Expected::Rows, LEAST_ROWS as u64)?;
-        Ok(Statement::Call(CallStatement::Collect {
-            auction,
+        Ok(Statement::Call(Call::Collect {
+            claim: ClaimNumbers { room, auction },
             rows: rows as usize,
         }))
     }

@@ -2,7 +2,7 @@
 ghost use Rattle.std.specs.Prelude.{◌≡◌};
 ghost use Rattle.market.specs.Meaning.{told_by};
 ghost use Rattle.script.specs.SettingRefusals.{failure_told};
-ghost use Rattle.script.specs.Setups.{told_of, nothing_told, room_result, setting_answer, told_after, room_in, told_after_call};
+ghost use Rattle.script.specs.Setups.{told_of, nothing_told, room_result, setting_answer, told_after, room_in, room_number, told_after_call};
 
 pub mod failure;
 mod legs;
@@ -61,6 +61,13 @@ impl Setup {
             Setting::Interval(terms) => self.interval = Some(ChosenInterval::new(terms)?),
         }
         Ok(())
+    }
+
+    /// The number of the script's room: 0 where none is told yet, for then no call is made.
+    pub fn room_number(&self) -> u32
+        ensures { result ≡ room_number (told_of self.now) }
+    {
+        self.number.unwrap_or(0)
     }
 
     fn terms(&self) -> Result<RoomTerms, Wanting>
