@@ -73,20 +73,9 @@ module _ {P Q : Type 0} where
 -- a call that neither opens nor collects leaves the purse
 quiet_purse : {T F : Type 0} (c : Call T) (a : Answer F) (purse : List ClaimNumbers) → opened_number a ≡ None → is_collected a ≡ false → purse_after c a purse ≡ purse
 quiet_purse (Open x) (Opened k) purse h g = none_some k.auction (sym h)
-quiet_purse (Open x) (Stored t) purse h g = append-nil purse
-quiet_purse (Open x) Accepted purse h g = append-nil purse
-quiet_purse (Open x) (Looked v) purse h g = append-nil purse
-quiet_purse (Open x) (Collected k fs) purse h g = append-nil purse
-quiet_purse (Open x) (Refused e) purse h g = append-nil purse
-quiet_purse (Respond x) a purse h g = refl
-quiet_purse (Change x) a purse h g = refl
-quiet_purse (Withdraw x) a purse h g = refl
-quiet_purse (Tick t x) a purse h g = refl
-quiet_purse (Halt t) a purse h g = refl
-quiet_purse (Resume t) a purse h g = refl
-quiet_purse (Clock t) a purse h g = refl
-quiet_purse Look a purse h g = refl
+quiet_purse (Open x) _ purse h g = append-nil purse
 quiet_purse (Collect c n) a purse h g = ap (λ (b : Bool). cond b (without_claim c purse) purse) g
+quiet_purse _ a purse h g = refl
 
 -- claims of a room's number are without the claim of an auction as the room is without the auction
 pub same : (n : ℕ) → eqb n n ≡ true

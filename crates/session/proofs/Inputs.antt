@@ -44,12 +44,7 @@ input_reason_is (Withdraw x) =
     same_check _ _ 1 _ _ refl
     (same_check _ _ 4 _ _ (outside_is 1 16 x.member)
     (same_check _ _ 5 None None (outside_is 1 4 x.own) refl))
-input_reason_is (Tick t x) = refl
-input_reason_is (Halt t) = refl
-input_reason_is (Resume t) = refl
-input_reason_is (Clock t) = refl
-input_reason_is Look = refl
-input_reason_is (Collect c rows) = refl
+input_reason_is _ = refl
 
 -- a call fails an input check exactly if it is refused for one
 pub fails_same : {T : Type 0} (c : Call T) → is_some (input_reason c) ≡ is_some (input_refusal c)

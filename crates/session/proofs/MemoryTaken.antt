@@ -1,12 +1,18 @@
 -- How many lists of rows calls want: one more call wants its own.
-use Rattle.std.proofs.Common.{◌≡◌, ℕ, ◌+◌, ◌<◌, List, [], ◌∷◌, ◌++◌, length, get_or, take, ap, ◌∙◌, arith}
+use Rattle.std.proofs.Common.{◌≡◌, ℕ, ◌+◌, ◌<◌, ◌≤◌, List, [], ◌∷◌, ◌++◌, length, get_or, take, ap, ◌∙◌, arith}
 use Rattle.std.proofs.lemmas.List.{take_more}
 use Rattle.session.specs.declared.calls.Call.{Call}
-use Rattle.session.specs.Memory.{lists_for, collectings_in}
+use Rattle.session.specs.declared.calls.Call.TheVariants.{Collect}
+use Rattle.session.specs.Memory.{lists_for, lists_for_all}
 
-collectings_push : {T : Type 0} (cs : List (Call T)) (c : Call T) → collectings_in (cs ++ c ∷ []) ≡ collectings_in cs + lists_for c
-collectings_push [] c = omega arith
-collectings_push (x ∷ xs) c = let rest = collectings_push xs c in omega arith
+lists_push : {T : Type 0} (cs : List (Call T)) (c : Call T) → lists_for_all (cs ++ c ∷ []) ≡ lists_for_all cs + lists_for c
+lists_push [] c = omega arith
+lists_push (x ∷ xs) c = let rest = lists_push xs c in omega arith
 
-pub collectings_more : {T : Type 0} (cs : List (Call T)) (i : ℕ) (d : Call T) → i < length cs → collectings_in (take (i + 1) cs) ≡ collectings_in (take i cs) + lists_for (get_or cs i d)
-collectings_more cs i d l = ap collectings_in (take_more cs i d l) ∙ collectings_push (take i cs) (get_or cs i d)
+pub lists_more : {T : Type 0} (cs : List (Call T)) (i : ℕ) (d : Call T) → i < length cs → lists_for_all (take (i + 1) cs) ≡ lists_for_all (take i cs) + lists_for (get_or cs i d)
+lists_more cs i d l = ap lists_for_all (take_more cs i d l) ∙ lists_push (take i cs) (get_or cs i d)
+
+-- A call wants one list at most.
+pub one_at_most : {T : Type 0} (c : Call T) → lists_for c ≤ 1
+one_at_most (Collect c n) = omega arith
+one_at_most _ = omega arith

@@ -112,7 +112,7 @@ response_then x t arrival = record { member = x.member; own = x.own; price = t.p
 
 -- The same response with another stored price and size: it counts as last stored, and has arrived then.
 abbrev pub restored_then : StoredTerms → ℕ → Told → Told
-restored_then t arrival r = record { member = r.member; own = r.own; price = t.price; class = r.class; kind = r.kind; size = t.size; arrival = arrival }
+restored_then t arrival r = record r { price = t.price; size = t.size; arrival = arrival }
 
 -- The response of this member with this own number.
 abbrev pub is_own : ℕ → ℕ → Told → Bool
@@ -346,8 +346,7 @@ module _ {P T F Q : Type 0} (w : World P T F Q) (p : P) (q : Q) where
     -- What a call makes of an open auction. A response that ends it still stands in it; the floor of an ending tick does not
     -- count.
     abbrev pub lived : Story
-    lived = record {
-      opening = s.opening;
+    lived = record s {
       floor = floor_after;
       stood = cond (deadline_reached s (x ∷ past)) s.stood (stood_told (told_terms x.answer));
       storers = cond stores (storing_after x.call s.storers) s.storers;

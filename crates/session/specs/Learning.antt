@@ -9,7 +9,7 @@ use Rattle.room.specs.declared.requests.ResponseRequest.{ResponseRequest}
 use Rattle.room.specs.State.{OpenAuction}
 use Rattle.room.specs.World.{World}
 use Rattle.session.specs.declared.calls.Call.{Call}
-use Rattle.session.specs.declared.calls.Call.TheVariants.{Open, Respond, Change, Withdraw, Tick, Halt, Resume, Clock, Look, Collect}
+use Rattle.session.specs.declared.calls.Call.TheVariants.{Open, Respond, Change, Withdraw, Look}
 use Rattle.session.specs.History.{opened_number}
 use Rattle.session.specs.Inputs.{beyond_prices, beyond_sizes}
 use Rattle.session.specs.Moments.{ends_at}
@@ -87,16 +87,11 @@ AlikeBothWays T = (u : ℕ) (cs ds : List (Call T)) → AllAlike u cs ds → All
 -- What a member is shown of a call's answer: of a look all, and of its own responses, changes and withdrawals all. Claims,
 -- the answers to ticks, and what a collecting writes are not compared.
 abbrev pub shown_of : {T F : Type 0} → ℕ → Call T → Answer F → Option (Answer F)
-shown_of u (Open x) a = None
 shown_of u (Respond x) a = cond (x.member == u) (Some a) None
 shown_of u (Change x) a = cond (x.member == u) (Some a) None
 shown_of u (Withdraw x) a = cond (x.member == u) (Some a) None
-shown_of u (Tick t x) a = None
-shown_of u (Halt t) a = None
-shown_of u (Resume t) a = None
-shown_of u (Clock t) a = None
 shown_of u Look a = Some a
-shown_of u (Collect c n) a = None
+shown_of u _ a = None
 
 module _ {P T F Q : Type 0} where
   abbrev pub seen_by : ℕ → Moment P T F Q → Option (Answer F)

@@ -7,7 +7,7 @@ use Rattle.room.specs.Rooms.{state_of, world_of}
 use Rattle.room.specs.World.{World}
 use Rattle.session.specs.declared.calls.Call.{Call}
 use Rattle.session.specs.declared.session.Session.{Session as CodeSession}
-use Rattle.session.specs.Memory.{collectings_in}
+use Rattle.session.specs.Memory.{lists_for_all}
 use Rattle.session.specs.Runs.{Answer}
 use Rattle.session.specs.Sessions.{Session, session_of, session_after, session_answer}
 
@@ -24,7 +24,7 @@ module _ {M R S P Q : Type 0} where
 -- A session has the memory that these calls can want: a place in the purse for each, and a list of rows for each collecting.
 pub record HasMemoryFor {M R S T : Type 0} (s : CodeSession M R S) (cs : List (Call T)) : Type 0 where
   pub claims : length cs ≤ s.purse.places
-  pub lists : collectings_in cs ≤ s.lists
+  pub lists : lists_for_all cs ≤ s.lists
 
 -- A call was made of a session in code as the model makes it: what it left and what was answered are the model's, and it
 -- used no memory but its own.

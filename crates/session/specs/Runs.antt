@@ -47,8 +47,7 @@ given_time (Tick t x) = Some t
 given_time (Halt t) = Some t
 given_time (Resume t) = Some t
 given_time (Clock t) = Some t
-given_time Look = None
-given_time (Collect c n) = None
+given_time _ = None
 
 -- The number of the refusal that the input checks of a call come to.
 abbrev pub input_refusal : {T : Type 0} → Call T → Option ℕ

@@ -24,7 +24,8 @@ module _ {M R S P T D F Q : Type 0} (fault : D → F) (position : M → P) (sour
   pub record RunAsModelled (w : World P T F Q) (before after : Session M R S) (calls : List (Call T)) (answered : List (Answer D)) : Type 0 where
     -- The answers, and the room and the claims afterwards, are the model's.
     pub answers : map (told fault) answered ≡ session_answers w (session_now position source before) calls
-    pub session : session_now position source after ≡ session_end w (session_now position source before) calls
+    pub room : state_of position source after.room ≡ (session_end w (session_now position source before) calls).room
+    pub claims : after.purse.numbers ≡ (session_end w (session_now position source before) calls).purse
     -- From a room's making on, with whatever claims, the whole promise holds.
     pub promise : (start : Start P Q) → session_now position source before ≡ at_first start → WholePromise w (run_carried start calls answered after)
     -- The room keeps its ranking, by which it would share out what comes next.

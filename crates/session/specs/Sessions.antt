@@ -5,9 +5,9 @@ use Rattle.room.specs.declared.answers.ClaimNumbers.{ClaimNumbers}
 use Rattle.room.specs.State.{RoomState}
 use Rattle.room.specs.World.{World}
 use Rattle.session.specs.declared.calls.Call.{Call}
-use Rattle.session.specs.declared.calls.Call.TheVariants.{Open, Respond, Change, Withdraw, Tick, Halt, Resume, Clock, Look, Collect}
+use Rattle.session.specs.declared.calls.Call.TheVariants.{Open, Collect}
 use Rattle.session.specs.History.{is_collected}
-use Rattle.session.specs.Runs.{Answer, Opened, Stored, Accepted, Looked, Collected, Refused, Moment, moment, step}
+use Rattle.session.specs.Runs.{Answer, Opened, Moment, moment, step}
 
 -- Two claims have the same numbers.
 abbrev pub same_claim : ClaimNumbers → ClaimNumbers → Bool
@@ -26,11 +26,7 @@ without_claim c (x ∷ xs) = cond (same_claim x c) xs (x ∷ without_claim c xs)
 -- The claim that an accepted opening is answered.
 abbrev pub claim_in : {F : Type 0} → Answer F → List ClaimNumbers
 claim_in (Opened c) = c ∷ []
-claim_in (Stored x) = []
-claim_in Accepted = []
-claim_in (Looked v) = []
-claim_in (Collected k fs) = []
-claim_in (Refused e) = []
+claim_in _ = []
 
 -- What a collecting leaves of a purse: an accepted one spends the claim, and a refused one hands it back, to its place.
 abbrev pub purse_left : {F : Type 0} → Answer F → ClaimNumbers → List ClaimNumbers → List ClaimNumbers
@@ -39,28 +35,13 @@ purse_left a c purse = cond (is_collected a) (without_claim c purse) purse
 -- The purse after a call: an opening adds the claim that it is answered, behind the others.
 abbrev pub purse_after : {T F : Type 0} → Call T → Answer F → List ClaimNumbers → List ClaimNumbers
 purse_after (Open x) a purse = purse ++ claim_in a
-purse_after (Respond x) a purse = purse
-purse_after (Change x) a purse = purse
-purse_after (Withdraw x) a purse = purse
-purse_after (Tick t x) a purse = purse
-purse_after (Halt t) a purse = purse
-purse_after (Resume t) a purse = purse
-purse_after (Clock t) a purse = purse
-purse_after Look a purse = purse
 purse_after (Collect c n) a purse = purse_left a c purse
+purse_after _ a purse = purse
 
 -- The call is made: a collecting only if its claim is held.
 abbrev pub is_made : {T : Type 0} → Call T → List ClaimNumbers → Bool
-is_made (Open x) purse = true
-is_made (Respond x) purse = true
-is_made (Change x) purse = true
-is_made (Withdraw x) purse = true
-is_made (Tick t x) purse = true
-is_made (Halt t) purse = true
-is_made (Resume t) purse = true
-is_made (Clock t) purse = true
-is_made Look purse = true
 is_made (Collect c n) purse = holds c purse
+is_made _ purse = true
 
 -- The room and the numbers of the claims that are held.
 pub record Session (P Q : Type 0) : Type 0 where

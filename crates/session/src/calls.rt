@@ -1,11 +1,11 @@
 // The calls on a room, as values.
 ghost use Rattle.std.specs.Prelude.{◌≡◌};
-ghost use Rattle.session.specs.Memory.{is_collecting};
+ghost use Rattle.session.specs.Memory.{lists_for, lists_for_all};
 
 use room::answers::ClaimNumbers;
 use room::requests::{ChangeRequest, OpeningRequest, ResponseRequest, WithdrawRequest};
 
-// T is the market's tick. A collecting hands in a claim, here by its numbers, and a list of so many rows.
+/// T is the market's tick. A collecting hands in a claim, here by its numbers, and a list of so many rows.
 #[derive(Drop)]
 pub enum Call<T> {
     Open(OpeningRequest),
@@ -21,9 +21,24 @@ pub enum Call<T> {
 }
 
 impl<T> Call<T> {
-    pub(crate) fn is_collecting(&self) -> bool
-        ensures { result ≡ is_collecting self.now }
+    // How many lists of rows it wants: a collecting one.
+    pub(crate) fn lists(&self) -> usize
+        ensures { result ≡ lists_for self.now }
     {
-        matches!(self, Call::Collect { .. })
+        match self {
+            Call::Collect { .. } => 1,
+            _ => 0,
+        }
     }
+}
+
+// How many lists of rows these calls want.
+pub(crate) fn lists_for_all<T>(calls: &[Call<T>]) -> usize
+    ensures { result ≡ lists_for_all calls.now }
+{
+    let mut lists = 0_usize;
+    for call in calls {
+        lists += call.lists();
+    }
+    lists
 }

@@ -1,8 +1,6 @@
 // The lists of rows that are kept for collectings to come.
 ghost use Rattle.std.specs.Prelude.{◌≡◌, ◌+◌, ◌≤◌, length, OnOk};
-ghost use Rattle.session.specs.Memory.{collectings_in, lists_for};
 
-use crate::calls::Call;
 use allocation::fill::{FillRow, LEAST_ROWS};
 use std::alloc::{AllocError, Global};
 use std::marker::Model;
@@ -42,26 +40,12 @@ impl RowLists {
         Ok(())
     }
 
-    // One more for a call that collects.
-    pub(crate) fn add_for<T>(&mut self, heap: Global, call: &Call<T>) -> Result<(), AllocError>
-        ensures { OnOk result (self.new ≡ self.old + lists_for call.now) }
+    // So many at least.
+    pub(crate) fn reserve(&mut self, heap: Global, lists: usize) -> Result<(), AllocError>
+        ensures { OnOk result (lists ≤ self.new) }
     {
-        if call.is_collecting() {
+        for _held in self.lists.len()..lists {
             self.add(heap)?;
-        }
-        Ok(())
-    }
-
-    // One more for each of the calls that collect.
-    pub(crate) fn add_for_all<T>(
-        &mut self,
-        heap: Global,
-        calls: &[Call<T>],
-    ) -> Result<(), AllocError>
-        ensures { OnOk result (collectings_in calls.now ≤ self.new) }
-    {
-        for call in calls {
-            self.add_for(heap, call)?;
         }
         Ok(())
     }

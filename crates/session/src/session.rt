@@ -8,7 +8,7 @@ ghost use Rattle.session.specs.Sessions.{session_answers, session_end};
 ghost use Rattle.session.specs.Told.{told, told_result};
 
 use crate::answers::Answer;
-use crate::calls::Call;
+use crate::calls::{Call, lists_for_all};
 use crate::lists::RowLists;
 use crate::purse::{Purse, Taken};
 use allocation::fill::{FillRow, LEAST_ROWS};
@@ -55,34 +55,35 @@ impl<M: Market, R: Ranking, S: IntervalSource> Session<M, R, S> {
         (room, purse.into_claims())
     }
 
-    // Takes the memory that a call can want.
-    pub(crate) fn reserve_for(
+    // Takes the memory that so many calls can want, with so many lists of rows among them.
+    pub(crate) fn reserve(
         &mut self,
         heap: Global,
-        call: &Call<M::Tick>,
+        calls: usize,
+        lists: usize,
     ) -> Result<(), AllocError>
-        ensures memory { OnOk result (HasMemoryFor self.new (call.now ∷ [])) }
-        ensures room { self.new.room ≡ self.old.room }
-        ensures claims { self.new.purse.numbers ≡ self.old.purse.numbers }
+        ensures claims { OnOk result (calls ≤ self.new.purse.places) }
+        ensures lists { OnOk result (lists ≤ self.new.lists) }
+        ensures same_room { self.new.room ≡ self.old.room }
+        ensures same_claims { self.new.purse.numbers ≡ self.old.purse.numbers }
     {
-        self.purse.reserve(1)?;
-        self.lists.add_for(heap, call)
+        self.purse.reserve(calls)?;
+        self.lists.reserve(heap, lists)
     }
 
     // Takes the memory that a run of these calls can want, and places for its answers. These come last: an answer may hold a fault
     // that may not be let go, and then no list of answers may be let go, not even an empty one.
-    fn take_memory(
+    fn reserve_for_all(
         &mut self,
         heap: Global,
         calls: &[Call<M::Tick>],
     ) -> Result<Vec<Answer<M::Fault>>, AllocError>
         ensures memory { OnOk result (HasMemoryFor self.new calls.now) }
         ensures answers { IfOk result (λ answers. (answers.items ≡ []) × (length calls.now ≤ vec_capacity answers)) }
-        ensures room { self.new.room ≡ self.old.room }
-        ensures claims { self.new.purse.numbers ≡ self.old.purse.numbers }
+        ensures same_room { self.new.room ≡ self.old.room }
+        ensures same_claims { self.new.purse.numbers ≡ self.old.purse.numbers }
     {
-        self.purse.reserve(calls.len())?;
-        self.lists.add_for_all(heap, calls)?;
+        self.reserve(heap, calls.len(), lists_for_all(calls))?;
         Vec::with_capacity(heap, calls.len())
     }
 
@@ -197,7 +198,7 @@ impl<M: Market, R: Ranking, S: IntervalSource> Session<M, R, S> {
         ensures room_back { OnErr result (self.new.room ≡ self.old.room) }
         ensures claims_back { OnErr result (self.new.purse.numbers ≡ self.old.purse.numbers) }
     {
-        let Ok(mut answers) = self.take_memory(heap, &calls) else {
+        let Ok(mut answers) = self.reserve_for_all(heap, &calls) else {
             return Err(calls);
         };
         self.play(calls, &mut answers);

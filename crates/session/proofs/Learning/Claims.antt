@@ -38,37 +38,18 @@ claim_known opens k = cond opens (claim_to k.number (k.opened + 1) ∷ []) []
 -- The purse after a call that is made.
 abbrev pub purse_known : {P T Q : Type 0} → (F : Type 0) → Bool → Known P Q → Call T → List ClaimNumbers → List ClaimNumbers
 purse_known F opens k (Open x) purse = purse ++ claim_known opens k
-purse_known F opens k (Respond x) purse = purse
-purse_known F opens k (Change x) purse = purse
-purse_known F opens k (Withdraw x) purse = purse
-purse_known F opens k (Tick t x) purse = purse
-purse_known F opens k (Halt t) purse = purse
-purse_known F opens k (Resume t) purse = purse
-purse_known F opens k (Clock t) purse = purse
-purse_known F opens k Look purse = purse
 purse_known F opens k (Collect c n) purse = cond (is_ok (collectable_known k c n)) (without_claim c purse) purse
+purse_known F opens k _ purse = purse
 
 -- What is hidden does not tell whether a call is made.
 pub hidden_made : {T : Type 0} (u : ℕ) (c : Call T) (purse : List ClaimNumbers) → is_made (without_hidden u c) purse ≡ is_made c purse
 hidden_made u (Open x) purse = refl
-hidden_made u (Respond x) purse = refl
-hidden_made u (Change x) purse = refl
-hidden_made u (Withdraw x) purse = refl
-hidden_made u (Tick t x) purse = refl
-hidden_made u (Halt t) purse = refl
-hidden_made u (Resume t) purse = refl
-hidden_made u (Clock t) purse = refl
-hidden_made u Look purse = refl
-hidden_made u (Collect c n) purse = refl
+hidden_made u _ purse = refl
 
 -- An answer that opens nothing has no claim.
 no_claim_in : {F : Type 0} (a : Answer F) → opened_number a ≡ None → claim_in a ≡ []
 no_claim_in (Opened c) h = none_some c.auction (sym h)
-no_claim_in (Stored x) h = refl
-no_claim_in Accepted h = refl
-no_claim_in (Looked v) h = refl
-no_claim_in (Collected k fs) h = refl
-no_claim_in (Refused e) h = refl
+no_claim_in _ h = refl
 
 -- The clock step leaves the room's number and how many auctions were opened, and so the claim of the next opening.
 module _ {P Q : Type 0} where
@@ -118,12 +99,5 @@ module _ {P T F Q : Type 0} (w : World P T F Q) (u : ℕ) (s : RoomState P Q) wh
   -- Every call.
   pub claims_follow : (c : Call T) (purse : List ClaimNumbers) → purse_after c (step w s c).1 purse ≡ purse_known F (opens_here (moment w s c)) (known u s) (without_hidden u c) purse
   claims_follow (Open x) purse = ap (λ l. purse ++ l) (opening_adds x)
-  claims_follow (Respond x) purse = refl
-  claims_follow (Change x) purse = refl
-  claims_follow (Withdraw x) purse = refl
-  claims_follow (Tick t x) purse = refl
-  claims_follow (Halt t) purse = refl
-  claims_follow (Resume t) purse = refl
-  claims_follow (Clock t) purse = refl
-  claims_follow Look purse = refl
   claims_follow (Collect c n) purse = ap (λ (b : Bool). cond b (without_claim c purse) purse) (collecting_known c n)
+  claims_follow _ purse = refl

@@ -57,13 +57,7 @@ abbrev pub without_hidden : {T : Type 0} → ℕ → Call T → Call T
 without_hidden u (Open x) = Open (opening_without x)
 without_hidden u (Respond x) = Respond (response_without (eqb x.member u) x)
 without_hidden u (Change x) = Change (change_without (eqb x.member u) x)
-without_hidden u (Withdraw x) = Withdraw x
-without_hidden u (Tick t x) = Tick t x
-without_hidden u (Halt t) = Halt t
-without_hidden u (Resume t) = Resume t
-without_hidden u (Clock t) = Clock t
-without_hidden u Look = Look
-without_hidden u (Collect c n) = Collect c n
+without_hidden u c = c
 
 -- A term that is hidden on both sides, or equal, is equal where what is hidden is left out.
 same_kept : {X : Type 0} (hidden : X → Bool) (blank x y : X) → HiddenOrEqual hidden x y → kept_unless hidden blank x ≡ kept_unless hidden blank y

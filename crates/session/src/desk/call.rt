@@ -44,7 +44,7 @@ impl<M: Market, R: Ranking, S: IntervalSource> Desk<M, R, S> {
         ensures unmade { OnErr result (self.new.session.room ≡ self.old.session.room) }
         ensures ranking { self.new.session.room.ranking ≡ self.old.session.room.ranking }
     {
-        self.session.reserve_for(heap, &call)?;
+        self.session.reserve(heap, 1, call.lists())?;
         Ok(self.session.make_call(call))
     }
 }

@@ -8,9 +8,9 @@ use Rattle.session.proofs.desk.Desk.call.Goals as goal
 
 pub invariant_of-self-2 : goal.invariant_of-self-2
 invariant_of-self-2 g c =
-    let before = c.reserve_for.new.self in
+    let before = c.reserve.new.self in
     let w = session_world g.M.Market.meaning g.S.IntervalSource.meaning g.R.Ranking.ahead before in
-    let held = c.reserve_for.ensures.claims ∙ c.args.self.now.all_held ∙ sym (ap claims_of_room c.reserve_for.ensures.room) in
+    let held = c.reserve.ensures.same_claims ∙ c.args.self.now.all_held ∙ sym (ap claims_of_room c.reserve.ensures.same_room) in
     let after = c.make_call.ensures.session in
     record {
       all_held =

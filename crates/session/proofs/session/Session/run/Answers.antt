@@ -17,21 +17,22 @@ returns g c =
     let at : Room g.row.M.Denot g.row.R.Denot g.row.S.Denot → World g.M.Market.Position g.row.M-Tick.Denot g.M.Market.Told g.S.IntervalSource.Position =
     λ r. world_of g.M.Market.meaning g.S.IntervalSource.meaning (g.R.Ranking.ahead r.ranking) in
     let before = session_now g.M.Market.position g.S.IntervalSource.position c.args.self.now in
-    let reserved = session_now g.M.Market.position g.S.IntervalSource.position c.take_memory.new.self in
+    let reserved = session_now g.M.Market.position g.S.IntervalSource.position c.reserve_for_all.new.self in
     let w = at c.args.self.now.room in
     let calls = vec_items c.args.calls in
-    let same_room = c.take_memory.ensures.room in
-    let starts = session_is reserved.room reserved.purse before (ap (state_of g.M.Market.position g.S.IntervalSource.position) same_room) c.take_memory.ensures.claims in
+    let same_room = c.reserve_for_all.ensures.same_room in
+    let starts = session_is reserved.room reserved.purse before (ap (state_of g.M.Market.position g.S.IntervalSource.position) same_room) c.reserve_for_all.ensures.same_claims in
     let ended = c.play.ensures.session ∙ ap (λ r. session_end (at r) reserved calls) same_room ∙ ap (λ s. session_end w s calls) starts in
     let answers =
     c.play.ensures.answers
-    ∙ ap (λ (l : List (Option (Answer g.M.Market.Told))). l ++ session_answers (at c.take_memory.new.self.room) reserved calls) (ap (map (told g.M.Market.told)) c.in-Ok.ensures.answers.0)
+    ∙ ap (λ (l : List (Option (Answer g.M.Market.Told))). l ++ session_answers (at c.reserve_for_all.new.self.room) reserved calls) (ap (map (told g.M.Market.told)) c.in-Ok.ensures.answers.0)
     ∙ ap (λ r. session_answers (at r) reserved calls) same_room
     ∙ ap (λ s. session_answers w s calls) starts in
     record {
       run = record {
         answers = answers;
-        session = ended;
+        room = ap (λ (s : Session g.M.Market.Position g.S.IntervalSource.Position). s.room) ended;
+        claims = ap (λ (s : Session g.M.Market.Position g.S.IntervalSource.Position). s.purse) ended;
         promise = λ start same.
             let last = ended ∙ ap (λ s. session_end w s calls) same in
             promised w
