@@ -6,19 +6,16 @@ use Rattle.day.specs.Alike.{SaidAlike, LinesAlike, ScriptAlikeToItself, MemberRe
 use Rattle.day.specs.Calls.{call_in, calls_in}
 use Rattle.day.specs.CarriedOut.{world_in, start_in}
 use Rattle.day.specs.ForMember.{transcript_line, answered_line, line_for, answers_behind, text_for}
-use Rattle.day.specs.Lines.{Line, Said, Replied, Call, Range}
+use Rattle.day.specs.Lines.{CubeCall, Line, Said, Replied, Call, Range}
 use Rattle.market.specs.Cube.{CubePosition}
 use Rattle.market.specs.declared.better_of.Half.{Half}
 use Rattle.market.specs.declared.legs.leg.LegTick.{LegTick}
 use Rattle.market.specs.declared.quote.Quote.{Quote}
 use Rattle.room.specs.World.{World}
 use Rattle.script.specs.declared.chosen.ChosenInterval.{ChosenInterval}
-use Rattle.script.specs.declared.statement.CallStatement.{CallStatement}
-use Rattle.script.specs.declared.statement.CallStatement.TheVariants as statement
-use Rattle.script.specs.Statements.{call_of}
+use Rattle.session.specs.declared.calls.Call.TheVariants as call
 use Rattle.script.specs.Texts.{answer_text}
 use Rattle.script.specs.Told.{CubeFaultTold, AnswerTold, answer_told}
-use Rattle.session.specs.declared.calls.Call.{Call as RoomCall}
 use Rattle.session.specs.Learning.{AllAlike}
 use Rattle.session.specs.Runs.{Answer, Moment, Accepted}
 use Rattle.session.specs.Promises.{at_first}
@@ -47,9 +44,6 @@ seen_line n (Some a) = transcript_line n (answer_text (Some a))
 abbrev any_answer : Answer CubeFaultTold
 any_answer = Accepted
 
-abbrev ACall : Type 0
-ACall = RoomCall (Half Quote LegTick)
-
 module _ (w : World CubePosition (Half Quote LegTick) CubeFaultTold ChosenInterval) where
   abbrev AMoment : Type 0
   AMoment = Moment CubePosition (Half Quote LegTick) CubeFaultTold ChosenInterval
@@ -68,130 +62,109 @@ module _ (w : World CubePosition (Half Quote LegTick) CubeFaultTold ChosenInterv
   unseen true u n m none = ap (seen_line n) (sym none)
   unseen false u n m none = refl
 
-  one_line : (u n room : ℕ) (s : Session CubePosition ChosenInterval) (c : CallStatement) (a : AnswerTold)
-      → a ≡ answer_of (session_moment w s (call_of room c))
-      → answered_line u n c a ≡ seen_line n (seen_if_made u (session_moment w s (call_of room c)))
-  one_line u n room s (statement.Open x) a same = refl
-  one_line u n room s (statement.Respond x) a same = cond_line (x.member == u) n a _ same
-  one_line u n room s (statement.Change x) a same = cond_line (x.member == u) n a _ same
-  one_line u n room s (statement.Withdraw x) a same = cond_line (x.member == u) n a _ same
-  one_line u n room s (statement.Tick t x) a same = refl
-  one_line u n room s (statement.Halt t) a same = refl
-  one_line u n room s (statement.Resume t) a same = refl
-  one_line u n room s (statement.Clock t) a same = refl
-  one_line u n room s statement.Look a same = ap (λ y. transcript_line n (answer_text y)) same
-  one_line u n room s (statement.Collect auction rows) a same = unseen _ u n _ refl
+  one_line : (u n : ℕ) (s : Session CubePosition ChosenInterval) (c : CubeCall) (a : AnswerTold)
+      → a ≡ answer_of (session_moment w s c)
+      → answered_line u n c a ≡ seen_line n (seen_if_made u (session_moment w s c))
+  one_line u n s (call.Respond x) a same = cond_line (x.member == u) n a _ same
+  one_line u n s (call.Change x) a same = cond_line (x.member == u) n a _ same
+  one_line u n s (call.Withdraw x) a same = cond_line (x.member == u) n a _ same
+  one_line u n s call.Look a same = ap (λ y. transcript_line n (answer_text y)) same
+  one_line u n s (call.Collect claim rows) a same = unseen _ u n _ refl
+  one_line u n s _ a same = refl
 
   -- The text of these lines, of what is shown at each call.
   abbrev seen_behind : Said → List AnswerTold → List AnswerTold
-  seen_behind (Replied r) xs = xs
-  seen_behind (Range q) xs = xs
-  seen_behind (Call c) [] = []
   seen_behind (Call c) (x ∷ xs) = xs
+  seen_behind _ xs = xs
 
   abbrev seen_at : ℕ → Said → List AnswerTold → List ℕ
-  seen_at n (Replied r) xs = []
-  seen_at n (Range q) xs = []
-  seen_at n (Call c) [] = []
   seen_at n (Call c) (x ∷ xs) = seen_line n x
+  seen_at n _ xs = []
 
   abbrev seen_text : List Line → List AnswerTold → List ℕ
   seen_text [] xs = []
   seen_text (l ∷ ls) xs = seen_at l.number l.said xs ++ seen_text ls (seen_behind l.said xs)
 
-  abbrev moments : ℕ → Session CubePosition ChosenInterval → List Line → List (Option AMoment)
-  moments room s ls = session_moments w s (calls_in room ls)
+  abbrev moments : Session CubePosition ChosenInterval → List Line → List (Option AMoment)
+  moments s ls = session_moments w s (calls_in ls)
 
   -- What is to be shown of all lines, from any session on.
-  abbrev AsSeen : ℕ → ℕ → List Line → Type 0
-  AsSeen u room ls =
+  abbrev AsSeen : ℕ → List Line → Type 0
+  AsSeen u ls =
       (s : Session CubePosition ChosenInterval) (answers : List AnswerTold)
-      → answers ≡ map answer_of (moments room s ls)
-      → text_for u ls answers ≡ seen_text ls (map (seen_if_made u) (moments room s ls))
+      → answers ≡ map answer_of (moments s ls)
+      → text_for u ls answers ≡ seen_text ls (map (seen_if_made u) (moments s ls))
 
-  one_more : (u n room : ℕ) (ls : List Line) (x : Said) → AsSeen u room ls
+  one_more : (u n : ℕ) (ls : List Line) (x : Said) → AsSeen u ls
       → (s : Session CubePosition ChosenInterval) (answers : List AnswerTold)
-      → answers ≡ map answer_of (session_moments w s (call_in room x ++ calls_in room ls))
+      → answers ≡ map answer_of (session_moments w s (call_in x ++ calls_in ls))
       → line_for u n x answers ++ text_for u ls (answers_behind x answers)
-      ≡ seen_at n x (map (seen_if_made u) (session_moments w s (call_in room x ++ calls_in room ls)))
-      ++ seen_text ls (seen_behind x (map (seen_if_made u) (session_moments w s (call_in room x ++ calls_in room ls))))
-  one_more u n room ls (Replied r) rest s answers same = rest s answers same
-  one_more u n room ls (Range q) rest s answers same = rest s answers same
-  one_more u n room ls (Call c) rest s [] same = absurd (subst Empty same tt)
-  one_more u n room ls (Call c) rest s (a ∷ answers) same =
-      ap (λ x. x ++ text_for u ls answers) (one_line u n room s c a (ap head same))
-      ∙ ap (λ x. seen_line n (seen_if_made u (session_moment w s (call_of room c))) ++ x) (rest (session_after w s (call_of room c)) answers (ap tail same))
+      ≡ seen_at n x (map (seen_if_made u) (session_moments w s (call_in x ++ calls_in ls)))
+      ++ seen_text ls (seen_behind x (map (seen_if_made u) (session_moments w s (call_in x ++ calls_in ls))))
+  one_more u n ls (Call c) rest s [] same = absurd (subst Empty same tt)
+  one_more u n ls (Call c) rest s (a ∷ answers) same =
+      ap (λ x. x ++ text_for u ls answers) (one_line u n s c a (ap head same))
+      ∙ ap (λ x. seen_line n (seen_if_made u (session_moment w s c)) ++ x) (rest (session_after w s c) answers (ap tail same))
+  one_more u n ls _ rest s answers same = rest s answers same
 
-  all_lines : (u room : ℕ) (ls : List Line) → AsSeen u room ls
-  all_lines u room [] s answers same = refl
-  all_lines u room (l ∷ ls) s answers same = one_more u l.number room ls l.said (all_lines u room ls) s answers same
+  all_lines : (u : ℕ) (ls : List Line) → AsSeen u ls
+  all_lines u [] s answers same = refl
+  all_lines u (l ∷ ls) s answers same = one_more u l.number ls l.said (all_lines u ls) s answers same
 
   -- Alike lines have the same text of what is shown.
-  one_alike : (u room n : ℕ) (x y : Said) (xs : List AnswerTold) → SaidAlike u room x y
+  one_alike : (u n : ℕ) (x y : Said) (xs : List AnswerTold) → SaidAlike u x y
       → (seen_at n x xs ≡ seen_at n y xs) × (seen_behind x xs ≡ seen_behind y xs)
-  one_alike u room n (Call c) (Call d) [] alike = (refl, refl)
-  one_alike u room n (Call c) (Call d) (x ∷ xs) alike = (refl, refl)
-  one_alike u room n (Call c) (Replied s) xs alike = absurd alike
-  one_alike u room n (Call c) (Range q) xs alike = absurd alike
-  one_alike u room n (Replied r) (Call d) xs alike = absurd alike
-  one_alike u room n (Replied r) (Replied s) xs alike = (refl, refl)
-  one_alike u room n (Replied r) (Range q) xs alike = (refl, refl)
-  one_alike u room n (Range p) (Call d) xs alike = absurd alike
-  one_alike u room n (Range p) (Replied s) xs alike = (refl, refl)
-  one_alike u room n (Range p) (Range q) xs alike = (refl, refl)
+  one_alike u n (Call c) (Call d) [] alike = (refl, refl)
+  one_alike u n (Call c) (Call d) (x ∷ xs) alike = (refl, refl)
+  one_alike u n (Call c) _ xs alike = absurd alike
+  one_alike u n _ (Call d) xs alike = absurd alike
+  one_alike u n _ _ xs alike = (refl, refl)
 
-  same_text : (u room : ℕ) (ls ms : List Line) (xs : List AnswerTold) → LinesAlike u room ls ms
+  same_text : (u : ℕ) (ls ms : List Line) (xs : List AnswerTold) → LinesAlike u ls ms
       → seen_text ls xs ≡ seen_text ms xs
-  same_text u room [] [] xs alike = refl
-  same_text u room [] (m ∷ ms) xs alike = absurd alike
-  same_text u room (l ∷ ls) [] xs alike = absurd alike
-  same_text u room (l ∷ ls) (m ∷ ms) xs alike =
-      let one = one_alike u room l.number l.said m.said xs alike.1 in
+  same_text u [] [] xs alike = refl
+  same_text u [] (m ∷ ms) xs alike = absurd alike
+  same_text u (l ∷ ls) [] xs alike = absurd alike
+  same_text u (l ∷ ls) (m ∷ ms) xs alike =
+      let one = one_alike u l.number l.said m.said xs alike.1 in
       ap (λ x. x ++ seen_text ls (seen_behind l.said xs)) (one.0 ∙ ap (λ n. seen_at n m.said xs) alike.0)
       ∙ ap (λ ys. seen_at m.number m.said xs ++ seen_text ls ys) one.1
-      ∙ ap (λ x. seen_at m.number m.said xs ++ x) (same_text u room ls ms (seen_behind m.said xs) alike.2)
+      ∙ ap (λ x. seen_at m.number m.said xs ++ x) (same_text u ls ms (seen_behind m.said xs) alike.2)
 
 -- The calls of alike lines are alike.
-calls_with : (u room : ℕ) (x y : Said) (cs ds : List ACall) → SaidAlike u room x y → AllAlike u cs ds
-    → AllAlike u (call_in room x ++ cs) (call_in room y ++ ds)
-calls_with u room (Call c) (Call d) cs ds alike rest = (alike, rest)
-calls_with u room (Call c) (Replied s) cs ds alike rest = absurd alike
-calls_with u room (Call c) (Range q) cs ds alike rest = absurd alike
-calls_with u room (Replied r) (Call d) cs ds alike rest = absurd alike
-calls_with u room (Replied r) (Replied s) cs ds alike rest = rest
-calls_with u room (Replied r) (Range q) cs ds alike rest = rest
-calls_with u room (Range p) (Call d) cs ds alike rest = absurd alike
-calls_with u room (Range p) (Replied s) cs ds alike rest = rest
-calls_with u room (Range p) (Range q) cs ds alike rest = rest
+calls_with : (u : ℕ) (x y : Said) (cs ds : List CubeCall) → SaidAlike u x y → AllAlike u cs ds
+    → AllAlike u (call_in x ++ cs) (call_in y ++ ds)
+calls_with u (Call c) (Call d) cs ds alike rest = (alike, rest)
+calls_with u (Call c) _ cs ds alike rest = absurd alike
+calls_with u _ (Call d) cs ds alike rest = absurd alike
+calls_with u _ _ cs ds alike rest = rest
 
-calls_alike : (u room : ℕ) (ls ms : List Line) → LinesAlike u room ls ms → AllAlike u (calls_in room ls) (calls_in room ms)
-calls_alike u room [] [] alike = tt
-calls_alike u room [] (m ∷ ms) alike = absurd alike
-calls_alike u room (l ∷ ls) [] alike = absurd alike
-calls_alike u room (l ∷ ls) (m ∷ ms) alike =
-    calls_with u room l.said m.said (calls_in room ls) (calls_in room ms) alike.1 (calls_alike u room ls ms alike.2)
+calls_alike : (u : ℕ) (ls ms : List Line) → LinesAlike u ls ms → AllAlike u (calls_in ls) (calls_in ms)
+calls_alike u [] [] alike = tt
+calls_alike u [] (m ∷ ms) alike = absurd alike
+calls_alike u (l ∷ ls) [] alike = absurd alike
+calls_alike u (l ∷ ls) (m ∷ ms) alike =
+    calls_with u l.said m.said (calls_in ls) (calls_in ms) alike.1 (calls_alike u ls ms alike.2)
 
 -- Every script is alike to itself, as its calls are.
-said_alike_to_itself : (u room : ℕ) (x : Said) → SaidAlike u room x x
-said_alike_to_itself u room (Call c) = one_to_itself u (call_of room c)
-said_alike_to_itself u room (Replied r) = tt
-said_alike_to_itself u room (Range q) = tt
+said_alike_to_itself : (u : ℕ) (x : Said) → SaidAlike u x x
+said_alike_to_itself u (Call c) = one_to_itself u c
+said_alike_to_itself u _ = tt
 
 pub script_alike_to_itself : ScriptAlikeToItself
-script_alike_to_itself u room [] = tt
-script_alike_to_itself u room (l ∷ ls) = (refl, said_alike_to_itself u room l.said, script_alike_to_itself u room ls)
+script_alike_to_itself u [] = tt
+script_alike_to_itself u (l ∷ ls) = (refl, said_alike_to_itself u l.said, script_alike_to_itself u ls)
 
 pub reads_the_same : MemberReadsTheSame
 reads_the_same u terms ls ms text other one two alike opens ends =
     let w = world_in terms in
-    let room = terms.number in
     let first = at_first (start_in terms) in
     let laws = one.carried_out.promise.session_laws in
     let others = two.carried_out.promise.session_laws in
-    let seen = laws.learning u (calls_in room ms) (calls_alike u room ls ms alike) opens ends in
+    let seen = laws.learning u (calls_in ms) (calls_alike u ls ms alike) opens ends in
     one.written
-    ∙ all_lines w u room ls first (map answer_told (vec_items one.outcome.answers)) (one.carried_out.promise.answers ∙ laws.answers)
+    ∙ all_lines w u ls first one.carried_out.answers (one.carried_out.promise.answers ∙ laws.answers)
     ∙ ap (seen_text w ls) seen.shown
-    ∙ same_text w u room ls ms (map (seen_if_made u) (moments w room first ms)) alike
-    ∙ sym (all_lines w u room ms first (map answer_told (vec_items two.outcome.answers)) (two.carried_out.promise.answers ∙ others.answers))
+    ∙ same_text w u ls ms (map (seen_if_made u) (moments w first ms)) alike
+    ∙ sym (all_lines w u ms first two.carried_out.answers (two.carried_out.promise.answers ∙ others.answers))
     ∙ sym two.written

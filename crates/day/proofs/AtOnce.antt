@@ -11,7 +11,7 @@ use Rattle.script.specs.declared.setup.failure.Wanting.{Wanting}
 use Rattle.script.specs.declared.statement.Statement.{Statement}
 use Rattle.script.specs.declared.statement.Statement.TheVariants.{Setting, Call, Range}
 use Rattle.script.specs.Grammar.{statement_in}
-use Rattle.script.specs.Setups.{Told, RoomTold, nothing_told, room_in, room_told}
+use Rattle.script.specs.Setups.{Told, RoomTold, nothing_told, room_in, room_number, room_told}
 use Rattle.day.specs.Lines.{Line, Said, Call as SaidCall, Range as SaidRange, in_room, said_where, told_where, numbered, lines_said, told_behind_lines, room_of, script_lines}
 use Rattle.day.specs.WholeText.{is_at_once, NoneLeftOut}
 
@@ -36,7 +36,7 @@ after_line t r (Ok (Some (Range q))) made = after_call t r (is_ok (room_in t)) m
 
 at_end : (t : Told) (r : RoomTold) (ls : List (List ℕ)) → Made t r → room_in (told_behind_lines t ls) ≡ Ok r
 at_end t r [] made = made.0
-at_end t r (l ∷ ls) made = at_end (told_where t (statement_in l)) r ls (after_line t r (statement_in l) made)
+at_end t r (l ∷ ls) made = at_end (told_where t (statement_in (room_number t) l)) r ls (after_line t r (statement_in (room_number t) l) made)
 
 abbrev at_once : List Line → Bool
 at_once ls = list_all (λ l. is_at_once l.said) ls
@@ -68,7 +68,7 @@ one_more t n ls (Ok (Some (Range q))) rest none = in_no_room t n (SaidRange q) l
 
 all_at_once : (ls : List (List ℕ)) → AllAtOnce ls
 all_at_once [] t n none = refl
-all_at_once (l ∷ ls) t n none = one_more t n ls (statement_in l) (all_at_once ls) none
+all_at_once (l ∷ ls) t n none = one_more t n ls (statement_in (room_number t) l) (all_at_once ls) none
 
 pub none_left_out : (script : List ℕ) (room : Option RoomTerms)
     → option_map room_told room ≡ room_of (room_in (told_behind_lines nothing_told (lines script)))

@@ -1,3 +1,4 @@
 mod LinesRead
 mod Alike
 mod AtOnce
+mod LinesMade

@@ -1,18 +1,15 @@
 -- What a member may see of a transcript: the lines that answer looks, and its own responses, changes and withdrawals.
-use Rattle.std.specs.Prelude.{◌≡◌, ℕ, Bool, cond, List, [], ◌∷◌, ◌++◌, codes, is_some, map, vec_items, Option, Some, None}
+use Rattle.std.specs.Prelude.{◌≡◌, ℕ, Bool, cond, List, [], ◌∷◌, ◌++◌, codes, is_some, Option, Some, None}
 use Rattle.std.specs.Option.{option_map}
 use Rattle.std.specs.Fmt.{decimal}
 use Rattle.std.specs.Str.Lines.{lines}
-use Rattle.day.specs.declared.outcome.Outcome.{Outcome}
-use Rattle.day.specs.Calls.{calls_in}
-use Rattle.day.specs.Lines.{Line, Said, Replied, Call, Range, lines_said, told_behind_lines, room_of}
-use Rattle.day.specs.CarriedOut.{CarriedOut}
+use Rattle.day.specs.Calls.{call_in, calls_in}
+use Rattle.day.specs.Lines.{CubeCall, Line, Said, Call, lines_said, told_behind_lines, room_of}
+use Rattle.day.specs.CarriedOut.{CarriedOut, CubeDesk, answers_at}
 use Rattle.script.specs.declared.setup.RoomTerms.{RoomTerms}
-use Rattle.script.specs.declared.statement.CallStatement.{CallStatement}
 use Rattle.script.specs.Setups.{nothing_told, room_in, room_told}
-use Rattle.script.specs.Statements.{call_of}
 use Rattle.script.specs.Texts.{answer_text}
-use Rattle.script.specs.Told.{CubeFaultTold, AnswerTold, answer_told}
+use Rattle.script.specs.Told.{CubeFaultTold, AnswerTold}
 use Rattle.session.specs.Learning.{shown_of}
 use Rattle.session.specs.Runs.{Accepted}
 
@@ -20,39 +17,41 @@ use Rattle.session.specs.Runs.{Accepted}
 abbrev pub transcript_line : ℕ → List ℕ → List ℕ
 transcript_line number text = decimal number ++ (codes ": " ++ (text ++ codes "\n"))
 
--- The law of what a member may learn shows it the answer to this call, whatever the answer and whatever the room's number.
-abbrev pub is_for : ℕ → CallStatement → Bool
-is_for member c = is_some (shown_of {F = CubeFaultTold} member (call_of 0 c) Accepted)
+-- The law of what a member may learn shows it the answer to this call, whatever the answer.
+abbrev pub is_for : ℕ → CubeCall → Bool
+is_for member c = is_some (shown_of {F = CubeFaultTold} member c Accepted)
 
 -- A call with its answer.
-abbrev pub answered_line : ℕ → ℕ → CallStatement → AnswerTold → List ℕ
+abbrev pub answered_line : ℕ → ℕ → CubeCall → AnswerTold → List ℕ
 answered_line member number c a = cond (is_for member c) (transcript_line number (answer_text a)) []
 
 -- A line, which is answered by the first of the answers if it is a call,
 abbrev pub line_for : ℕ → ℕ → Said → List AnswerTold → List ℕ
-line_for member number (Replied r) answers = []
-line_for member number (Range q) answers = []
-line_for member number (Call c) [] = []
 line_for member number (Call c) (a ∷ answers) = answered_line member number c a
+line_for member number _ answers = []
 
 -- and the answers behind it.
 abbrev pub answers_behind : Said → List AnswerTold → List AnswerTold
-answers_behind (Replied r) answers = answers
-answers_behind (Range q) answers = answers
-answers_behind (Call c) [] = []
 answers_behind (Call c) (a ∷ answers) = answers
+answers_behind _ answers = answers
 
 -- All lines, with the answers to their calls.
 abbrev pub text_for : ℕ → List Line → List AnswerTold → List ℕ
 text_for member [] answers = []
 text_for member (l ∷ ls) answers = line_for member l.number l.said answers ++ text_for member ls (answers_behind l.said answers)
 
+-- What is written of a line, and of lines, whose calls are made at this desk.
+abbrev pub line_at : ℕ → CubeDesk → Line → List ℕ
+line_at member d l = line_for member l.number l.said (answers_at d (call_in l.said))
+
+abbrev pub text_at : ℕ → CubeDesk → List Line → List ℕ
+text_at member d ls = text_for member ls (answers_at d (calls_in ls))
+
 -- The text is that of these lines, whose calls were carried out in the room of these terms: every law of a run holds of them,
 -- and that of what a member may learn.
 pub record TextFor (member : ℕ) (terms : RoomTerms) (lines : List Line) (text : List ℕ) : Type 0 where
-  pub outcome : Outcome
-  pub carried_out : CarriedOut terms (calls_in terms.number lines) outcome
-  pub written : text ≡ text_for member lines (map answer_told (vec_items outcome.answers))
+  pub carried_out : CarriedOut terms (calls_in lines)
+  pub written : text ≡ text_for member lines carried_out.answers
 
 -- Where there is no room there are no calls, and nothing to be seen.
 abbrev pub TextIn : ℕ → Option RoomTerms → List Line → List ℕ → Type 0

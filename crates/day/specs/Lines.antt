@@ -2,24 +2,31 @@
 use Rattle.std.specs.Prelude.{Bool, true, false, ℕ, ◌+◌, List, [], ◌∷◌, ◌++◌, Option, Some, None, Result, Ok, Err}
 use Rattle.std.specs.List.{list_all}
 use Rattle.std.specs.Str.Lines.{lines}
+use Rattle.market.specs.declared.better_of.Half.{Half}
+use Rattle.market.specs.declared.legs.leg.LegTick.{LegTick}
+use Rattle.market.specs.declared.quote.Quote.{Quote}
+use Rattle.session.specs.declared.calls.Call.{Call as RoomCall}
 use Rattle.day.specs.declared.lines.Line.{Line as CodeLine}
 use Rattle.day.specs.declared.lines.Said.{Said as CodeSaid}
 use Rattle.day.specs.declared.lines.Said.TheVariants as code
 use Rattle.script.specs.Grammar.{statement_in}
-use Rattle.script.specs.Replies.{Reply, Answered, SettingRefused, Permitted, RangeRefused, NotUnderstood, reply_told, setting_reply}
-use Rattle.script.specs.Setups.{nothing_told, Told, RoomTold, setting_answer, told_after, room_in, told_after_call}
+use Rattle.script.specs.Replies.{Reply, NotUnderstood, reply_told, setting_reply}
+use Rattle.script.specs.Setups.{nothing_told, Told, RoomTold, setting_answer, told_after, room_in, room_number, told_after_call}
 use Rattle.script.specs.declared.misread.Misread.{Misread}
 use Rattle.script.specs.declared.setup.failure.Wanting.{Wanting}
-use Rattle.script.specs.declared.statement.CallStatement.{CallStatement}
 use Rattle.script.specs.declared.statement.RangeQuestion.{RangeQuestion}
 use Rattle.script.specs.declared.statement.Statement.{Statement}
 use Rattle.script.specs.declared.statement.Statement.TheVariants as statement
 use Rattle.script.specs.declared.transcript.NotUnderstood.TheVariants as why
 
+-- A call on a room of the CUBE market.
+abbrev pub CubeCall : Type 0
+CubeCall = RoomCall (Half Quote LegTick)
+
 -- What a line says: a reply that needs no room, a call, or a question for a range.
 pub data Said : Type 0 where
   Replied : Reply → Said
-  Call : CallStatement → Said
+  Call : CubeCall → Said
   Range : RangeQuestion → Said
 
 -- What is told of what a line says in code.
@@ -60,7 +67,7 @@ said_where t (Ok (Some x)) = Some (said_by t x)
 said_where t (Err e) = Some (Replied (NotUnderstood (why.Misread e)))
 
 abbrev pub said_in : Told → List ℕ → Option Said
-said_in t line = said_where t (statement_in line)
+said_in t line = said_where t (statement_in (room_number t) line)
 
 -- A line that is no statement leaves what was told.
 abbrev pub told_where : Told → Result (Option Statement) Misread → Told
@@ -69,7 +76,7 @@ told_where t (Ok (Some x)) = told_behind t x
 told_where t (Err e) = t
 
 abbrev pub told_behind_line : Told → List ℕ → Told
-told_behind_line t line = told_where t (statement_in line)
+told_behind_line t line = told_where t (statement_in (room_number t) line)
 
 -- A line with its number, if it is not passed over.
 abbrev pub numbered : ℕ → Option Said → List Line
@@ -94,12 +101,7 @@ room_of (Err e) = None
 -- A line is understood if it is answered otherwise than by why it is not.
 abbrev pub is_understood : Said → Bool
 is_understood (Replied (NotUnderstood e)) = false
-is_understood (Replied (Answered a)) = true
-is_understood (Replied (SettingRefused e)) = true
-is_understood (Replied (Permitted r)) = true
-is_understood (Replied (RangeRefused e)) = true
-is_understood (Call c) = true
-is_understood (Range q) = true
+is_understood _ = true
 
 -- The lines of a script, all of them.
 abbrev pub script_lines : List ℕ → List Line

@@ -1,38 +1,40 @@
 -- What the transcript of a whole script says.
-use Rattle.std.specs.Prelude.{◌≡◌, ℕ, Bool, true, false, List, [], ◌∷◌, ◌++◌, codes, map, vec_items, Option, Some, None}
+use Rattle.std.specs.Prelude.{◌≡◌, ℕ, Bool, true, false, List, [], ◌∷◌, ◌++◌, codes, Option, Some, None}
 use Rattle.std.specs.List.{flat_map, list_all}
 use Rattle.std.specs.Option.{option_map}
 use Rattle.std.specs.Str.Lines.{lines}
-use Rattle.day.specs.declared.outcome.Outcome.{Outcome}
-use Rattle.day.specs.Calls.{calls_in}
-use Rattle.day.specs.CarriedOut.{CarriedOut, told_at_end}
+use Rattle.day.specs.Calls.{call_in, calls_in}
+use Rattle.day.specs.CarriedOut.{CarriedOut, CubeDesk, answers_at}
 use Rattle.day.specs.ForMember.{transcript_line, answers_behind}
-use Rattle.day.specs.Lines.{Line, Said, Replied, Call, Range, told_behind_lines, room_of, script_lines}
+use Rattle.day.specs.Lines.{CubeCall, Line, Said, Replied, Call, Range, told_behind_lines, room_of, script_lines}
 use Rattle.market.specs.Cube.{CubePosition, cube_meaning, cube_start}
+use Rattle.market.specs.declared.better_of.Half.{Half}
+use Rattle.market.specs.declared.legs.leg.LegTick.{LegTick}
+use Rattle.market.specs.declared.quote.Quote.{Quote}
 use Rattle.market.specs.Legs.{legs_of}
 use Rattle.market.specs.Range.{permitted}
 use Rattle.script.specs.declared.setup.RoomTerms.{RoomTerms}
-use Rattle.script.specs.declared.statement.CallStatement.{CallStatement}
-use Rattle.script.specs.declared.statement.CallStatement.TheVariants.{Tick}
 use Rattle.script.specs.declared.statement.RangeQuestion.{RangeQuestion}
 use Rattle.script.specs.Replies.{range_reply, reply_text}
 use Rattle.script.specs.Setups.{nothing_told, room_in, room_told}
 use Rattle.script.specs.Texts.{answer_text, collected_text}
-use Rattle.script.specs.Told.{AnswerTold, answer_told}
+use Rattle.script.specs.Told.{AnswerTold}
 use Rattle.session.specs.Desks.{ToldAtClose}
+use Rattle.session.specs.History.{tick_in}
 use Rattle.session.specs.Runs.{Accepted}
 
 -- The market behind a call: it takes a tick that the room accepted, and nothing else.
-abbrev pub market_after : CubePosition → CallStatement → AnswerTold → CubePosition
-market_after p (Tick time tick) (Some Accepted) = cube_meaning.next p tick
-market_after p c a = p
+abbrev pub market_taking : CubePosition → Option (Half Quote LegTick) → AnswerTold → CubePosition
+market_taking p (Some tick) (Some Accepted) = cube_meaning.next p tick
+market_taking p tick a = p
+
+abbrev pub market_after : CubePosition → CubeCall → AnswerTold → CubePosition
+market_after p c a = market_taking p (tick_in c) a
 
 -- The market behind a line, which is answered by the first of the answers if it is a call.
 abbrev pub market_behind : CubePosition → Said → List AnswerTold → CubePosition
-market_behind p (Replied r) answers = p
-market_behind p (Range q) answers = p
-market_behind p (Call c) [] = p
 market_behind p (Call c) (a ∷ answers) = market_after p c a
+market_behind p _ answers = p
 
 -- What a question is answered: the range that a market permits, by what it then shows.
 abbrev pub range_answered : CubePosition → RangeQuestion → List ℕ
@@ -51,6 +53,16 @@ whole_lines p [] answers = []
 whole_lines p (l ∷ ls) answers =
     whole_line p l.number l.said answers ++ whole_lines (market_behind p l.said answers) ls (answers_behind l.said answers)
 
+-- What is written of a line, and of lines, whose calls are made at this desk; and the market behind the line.
+abbrev pub whole_line_at : CubePosition → CubeDesk → Line → List ℕ
+whole_line_at p d l = whole_line p l.number l.said (answers_at d (call_in l.said))
+
+abbrev pub whole_lines_at : CubePosition → CubeDesk → List Line → List ℕ
+whole_lines_at p d ls = whole_lines p ls (answers_at d (calls_in ls))
+
+abbrev pub market_behind_at : CubePosition → CubeDesk → Line → CubePosition
+market_behind_at p d l = market_behind p l.said (answers_at d (call_in l.said))
+
 -- An auction that the room still held at the end of the script.
 abbrev pub end_line : ToldAtClose → List ℕ
 end_line t = codes "end: " ++ (collected_text t.collection t.rows ++ codes "\n")
@@ -61,15 +73,13 @@ end_lines ts = flat_map end_line ts
 -- The text is that of these lines, whose calls were carried out in the room of these terms, the questions answered by a market
 -- that begins as the room's does; and behind them what is told of each auction when the room is closed.
 pub record WholeTextOf (terms : RoomTerms) (ls : List Line) (text : List ℕ) : Type 0 where
-  pub outcome : Outcome
-  pub carried_out : CarriedOut terms (calls_in terms.number ls) outcome
-  pub written : text ≡ whole_lines (cube_start (legs_of terms.legs)) ls (map answer_told (vec_items outcome.answers)) ++ end_lines (told_at_end outcome)
+  pub carried_out : CarriedOut terms (calls_in ls)
+  pub written : text ≡ whole_lines (cube_start (legs_of terms.legs)) ls carried_out.answers ++ end_lines carried_out.at_end
 
 -- Where there is no room, the answers are those that are given at once.
 abbrev pub reply_line : ℕ → Said → List ℕ
 reply_line number (Replied r) = transcript_line number (reply_text r)
-reply_line number (Range q) = []
-reply_line number (Call c) = []
+reply_line number _ = []
 
 abbrev pub reply_lines : List Line → List ℕ
 reply_lines ls = flat_map (λ l. reply_line l.number l.said) ls
@@ -81,8 +91,7 @@ WholeTextIn (Some terms) ls text = WholeTextOf terms ls text
 -- And no line is left out there: it has no call and no question.
 abbrev pub is_at_once : Said → Bool
 is_at_once (Replied r) = true
-is_at_once (Range q) = false
-is_at_once (Call c) = false
+is_at_once _ = false
 
 abbrev pub NoneLeftOut : Option RoomTerms → List Line → Type 0
 NoneLeftOut None ls = list_all (λ l. is_at_once l.said) ls ≡ true

@@ -1,10 +1,9 @@
 // A day carried out: from the text of its script to the text of its transcript.
 #![tactic(auto)]
 
-mod calls;
+mod desk;
 pub mod laws;
 pub mod lines;
 mod member;
-pub mod outcome;
 pub mod transcript;
 mod whole;

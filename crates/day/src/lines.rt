@@ -6,28 +6,30 @@ ghost use Rattle.script.specs.Setups.{told_of, nothing_told, room_in, room_told}
 ghost use Rattle.day.specs.Lines.{line_told, said_told, in_room, said_by, told_behind, said_in, told_behind_line, numbered, lines_said, told_behind_lines, room_of};
 ghost use Rattle.script.specs.Setups.{told_after_call};
 
+use market::cube::CubeTick;
 use script::read::read_statement;
 use script::setup::{RoomTerms, Setup};
-use script::statement::{CallStatement, RangeQuestion, Statement};
+use script::statement::{RangeQuestion, Statement};
 use script::transcript::{NotUnderstood, Reply};
+use session::calls::Call;
 use std::alloc::{AllocError, Global};
 
-// What a line says. What needs no room is answered at once: a setting, and what is not understood.
+/// What a line says. What needs no room is answered at once: a setting, and what is not understood.
 #[derive(Drop)]
 pub enum Said {
     Replied(Reply),
-    Call(CallStatement),
+    Call(Call<CubeTick>),
     Range(RangeQuestion),
 }
 
-// A line that is not passed over, with its number, counted from 1.
+/// A line that is not passed over, with its number, counted from 1.
 #[derive(Drop)]
 pub struct Line {
     pub number: usize,
     pub said: Said,
 }
 
-// The lines in their order, and what the room is made of, if there is one.
+/// The lines in their order, and what the room is made of, if there is one.
 #[derive(Drop)]
 pub struct Script {
     pub lines: Vec<Line>,
@@ -61,7 +63,7 @@ fn said_in(setup: &mut Setup, line: &str) -> Option<Said>
     ensures said { option_map said_told result ≡ said_in (told_of setup.old) line.now }
     ensures told { told_of setup.new ≡ told_behind_line (told_of setup.old) line.now }
 {
-    match read_statement(line) {
+    match read_statement(setup.room_number(), line) {
         Ok(statement) => Some(said_by(setup, statement?)),
         Err(misread) => Some(Said::Replied(Reply::NotUnderstood(NotUnderstood::from(misread)))),
     }
@@ -84,7 +86,7 @@ fn read_line(
 }
 
 impl Script {
-    // Reads a script, line by line.
+    /// Reads a script, line by line.
     pub fn read(heap: Global, text: &str) -> Result<Script, AllocError>
         ensures lines { IfOk result (λ s. map line_told s.lines.items ≡ lines_said nothing_told 1 (lines text.now)) }
         ensures room { IfOk result (λ s. option_map room_told s.room ≡ room_of (room_in (told_behind_lines nothing_told (lines text.now)))) }

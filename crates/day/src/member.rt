@@ -1,50 +1,52 @@
 // What a member may see of a transcript.
-ghost use Rattle.std.specs.Prelude.{◌≡◌, ◌++◌, IfOk, OnOk, map, string_bytes};
-ghost use Rattle.script.specs.Told.{answer_told};
-ghost use Rattle.day.specs.ForMember.{line_for, answers_behind, text_for};
+ghost use Rattle.std.specs.Prelude.{◌≡◌, ◌++◌, OnOk, map, string_bytes, vec_items};
+ghost use Rattle.day.specs.Calls.{call_in, calls_in};
+ghost use Rattle.day.specs.CarriedOut.{DeskBehind};
+ghost use Rattle.day.specs.ForMember.{line_at, text_at};
 ghost use Rattle.day.specs.Lines.{line_told, said_told};
 
+use crate::desk::CubeDesk;
 use crate::lines::{Line, Said};
-use market::cube::CubeFault;
+use script::shown::is_shown_to;
 use script::transcript::answers::AnswerText;
-use session::answers::Answer;
-use std::alloc::AllocError;
+use std::alloc::{AllocError, Global};
 
-// Writes the answer to a line, if the member may see it, and hands on the answers behind it.
-fn write_line<'a>(
+// Makes the call of a line, if it says one, and writes the answer if the member may see it.
+fn write_line(
+    heap: Global,
     text: &mut String,
-    line: &Line,
-    answers: &'a [Answer<CubeFault>],
-    member: u8,
-) -> Result<&'a [Answer<CubeFault>], AllocError>
-    ensures text { OnOk result (string_bytes text.new ≡ string_bytes text.old ++ line_for member line.now.number (said_told line.now.said) (map answer_told answers.now)) }
-    ensures behind { IfOk result (λ rest. map answer_told rest.now ≡ answers_behind (said_told line.now.said) (map answer_told answers.now)) }
-{
-    match (&line.said, answers) {
-        (Said::Call(call), [answer, rest @ ..]) => {
-            if call.is_shown_to(member) {
-                let number = line.number;
-                let answer = AnswerText(answer);
-                writeln!(text, "{number}: {answer}")?;
-            }
-            Ok(rest)
-        }
-        _ => Ok(answers),
-    }
-}
-
-// Writes the lines that the member may see.
-pub(crate) fn write_lines(
-    text: &mut String,
-    lines: &[Line],
-    answers: &[Answer<CubeFault>],
+    desk: &mut CubeDesk,
+    line: Line,
     member: u8,
 ) -> Result<(), AllocError>
-    ensures { OnOk result (string_bytes text.new ≡ string_bytes text.old ++ text_for member (map line_told lines.now) (map answer_told answers.now)) }
+    ensures text { OnOk result (string_bytes text.new ≡ string_bytes text.old ++ line_at member desk.old (line_told line)) }
+    ensures desk { OnOk result (DeskBehind desk.old (call_in (said_told line.said)) desk.new) }
 {
-    let mut answers = answers;
+    let Line { number, said } = line;
+    if let Said::Call(call) = said {
+        let is_shown = is_shown_to(&call, member);
+        let answer = desk.call(heap, call)?;
+        if is_shown {
+            let answer = AnswerText(&answer);
+            writeln!(text, "{number}: {answer}")?;
+        }
+    }
+    Ok(())
+}
+
+// Makes the calls of all lines, and writes the answers that the member may see.
+pub(crate) fn write_lines(
+    heap: Global,
+    text: &mut String,
+    desk: &mut CubeDesk,
+    lines: Vec<Line>,
+    member: u8,
+) -> Result<(), AllocError>
+    ensures text { OnOk result (string_bytes text.new ≡ string_bytes text.old ++ text_at member desk.old (map line_told (vec_items lines))) }
+    ensures desk { OnOk result (DeskBehind desk.old (calls_in (map line_told (vec_items lines))) desk.new) }
+{
     for line in lines {
-        answers = write_line(text, line, answers, member)?;
+        write_line(heap, text, desk, line, member)?;
     }
     Ok(())
 }

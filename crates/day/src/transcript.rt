@@ -1,19 +1,21 @@
 // The transcript of a script: the text of its answers.
-ghost use Rattle.std.specs.Prelude.{◌≡◌, IfOk, map, string_bytes};
+ghost use Rattle.std.specs.Prelude.{◌≡◌, IfOk, map, string_bytes, vec_items};
 ghost use Rattle.day.specs.ForMember.{TextFor, TranscriptFor};
 ghost use Rattle.day.specs.WholeText.{WholeTranscript};
 ghost use Rattle.day.specs.Lines.{line_told, said_told, is_understood, is_all_understood, script_lines};
 
-use crate::calls::calls_in;
+use crate::desk::desk_of;
 use crate::lines::{Line, Said, Script};
 use crate::member::write_lines;
-use crate::outcome::{Outcome, carry_out};
 use crate::whole::{replies_text, whole_text};
+use market::cube::CubeMarket;
+use script::chosen::{ChosenInterval, ChosenRanking};
 use script::setup::RoomTerms;
 use script::transcript::Reply;
+use session::laws::model_keeps_the_promise;
 use std::alloc::{AllocError, Global};
 
-// What is printed, and whether every statement of the script is understood.
+/// What is printed, and whether every statement of the script is understood.
 #[derive(Drop)]
 pub struct Transcript {
     pub text: String,
@@ -35,20 +37,22 @@ fn is_all_understood(lines: &[Line]) -> bool
 // Carries out the calls of the lines, and writes what the member may see.
 fn text_for(
     heap: Global,
-    lines: &[Line],
+    lines: Vec<Line>,
     terms: RoomTerms,
     member: u8,
 ) -> Result<String, AllocError>
-    ensures { IfOk result (λ text. TextFor member terms (map line_told lines.now) (string_bytes text)) }
+    ensures { IfOk result (λ text. TextFor member terms (map line_told (vec_items lines)) (string_bytes text)) }
 {
-    let calls = calls_in(heap, lines, terms.number)?;
-    let Outcome { answers, closed: _ } = carry_out(heap, terms, calls)?;
+    model_keeps_the_promise::<CubeMarket, ChosenInterval, ChosenRanking>(&terms.ranking);
+    let mut desk = desk_of(heap, terms);
     let mut text = String::new(heap);
-    write_lines(&mut text, lines, &answers, member)?;
+    let written = write_lines(heap, &mut text, &mut desk, lines, member);
+    let _closed = desk.close();
+    written?;
     Ok(text)
 }
 
-// Carries out a script. The text has what the member may see, and nothing else.
+/// Carries out a script. The text has what the member may see, and nothing else.
 pub fn transcript_for(heap: Global, script: &str, member: u8) -> Result<Transcript, AllocError>
     ensures text { IfOk result (λ t. TranscriptFor member script.now (string_bytes t.text)) }
     ensures understood { IfOk result (λ t. t.understood ≡ is_all_understood (script_lines script.now)) }
@@ -56,13 +60,13 @@ pub fn transcript_for(heap: Global, script: &str, member: u8) -> Result<Transcri
     let Script { lines, room } = Script::read(heap, script)?;
     let understood = is_all_understood(&lines);
     let text = match room {
-        Some(terms) => text_for(heap, &lines, terms, member)?,
+        Some(terms) => text_for(heap, lines, terms, member)?,
         None => String::new(heap),
     };
     Ok(Transcript { text, understood })
 }
 
-// Carries out a script. The text has the answers to all its statements, and those to the collectings at its end.
+/// Carries out a script. The text has the answers to all its statements, and those to the collectings at its end.
 #[tactic(auto, using(crate::proofs::AtOnce::none_left_out))]
 pub fn whole_transcript(heap: Global, script: &str) -> Result<Transcript, AllocError>
     ensures text { IfOk result (λ t. WholeTranscript script.now (string_bytes t.text)) }
@@ -71,7 +75,7 @@ pub fn whole_transcript(heap: Global, script: &str) -> Result<Transcript, AllocE
     let Script { lines, room } = Script::read(heap, script)?;
     let understood = is_all_understood(&lines);
     let text = match room {
-        Some(terms) => whole_text(heap, &lines, terms)?,
+        Some(terms) => whole_text(heap, lines, terms)?,
         None => replies_text(heap, &lines)?,
     };
     Ok(Transcript { text, understood })

@@ -1,36 +1,49 @@
 // A whole transcript.
-ghost use Rattle.std.specs.Prelude.{◌≡◌, ◌++◌, [], ◌∷◌, IfOk, OnOk, map, string_bytes};
+ghost use Rattle.std.specs.Prelude.{◌≡◌, ◌++◌, [], ◌∷◌, IfOk, OnOk, map, string_bytes, vec_items};
 ghost use Rattle.std.specs.Option.{option_map};
 ghost use Rattle.market.specs.Cube.{cube_position, cube_meaning};
 ghost use Rattle.market.specs.Range.{permitted};
 ghost use Rattle.script.specs.Replies.{range_reply, reply_told};
 ghost use Rattle.script.specs.Told.{answer_told};
 ghost use Rattle.session.specs.Desks.{closed_told, listed_told};
+ghost use Rattle.session.specs.History.{tick_in};
 ghost use Rattle.session.specs.Sessions.{given};
-ghost use Rattle.day.specs.ForMember.{answers_behind};
+ghost use Rattle.day.specs.Calls.{call_in, calls_in};
+ghost use Rattle.day.specs.CarriedOut.{DeskBehind};
 ghost use Rattle.day.specs.Lines.{line_told, said_told};
-ghost use Rattle.day.specs.WholeText.{market_after, market_behind, whole_line, whole_lines, end_lines, WholeTextOf, reply_line, reply_lines};
+ghost use Rattle.day.specs.WholeText.{market_behind_at, market_taking, whole_line_at, whole_lines_at, end_lines, WholeTextOf, reply_line, reply_lines};
 
-use crate::calls::calls_in;
+use crate::desk::{CubeDesk, desk_of};
 use crate::lines::{Line, Said};
-use crate::outcome::{Outcome, carry_out};
-use market::cube::{CubeFault, CubeMarket, cube_market};
+use market::cube::{CubeFault, CubeMarket, CubeTick, cube_market};
 use market::market::Market;
 use market::range::permitted::permitted_range;
+use script::chosen::{ChosenInterval, ChosenRanking};
 use script::setup::RoomTerms;
-use script::statement::{CallStatement, RangeQuestion, same_tick};
+use script::statement::{RangeQuestion, same_tick};
 use script::transcript::Reply;
 use script::transcript::answers::{AnswerText, CollectedText};
 use session::answers::Answer;
+use session::calls::Call;
 use session::desk::ClosedAuction;
+use session::laws::model_keeps_the_promise;
 use std::alloc::{AllocError, Global};
 
-// The transcript has a market of its own, for questions about ranges. It takes each tick that the room accepted.
-fn take_tick(market: &mut CubeMarket, call: &CallStatement, answer: &Answer<CubeFault>)
-    ensures { cube_position market.new ≡ market_after (cube_position market.old) call.now (answer_told answer.now) }
+fn tick_in(call: &Call<CubeTick>) -> Option<CubeTick>
+    ensures { result ≡ tick_in call.now }
 {
-    if let (CallStatement::Tick { time: _, tick }, Answer::Accepted) = (call, answer) {
-        let _ = market.tick(same_tick(tick));
+    match call {
+        Call::Tick { time: _, tick } => Some(same_tick(tick)),
+        _ => None,
+    }
+}
+
+// The transcript has a market of its own, for questions about ranges. It takes each tick that the room accepted.
+fn take_tick(market: &mut CubeMarket, tick: Option<CubeTick>, answer: &Answer<CubeFault>)
+    ensures { cube_position market.new ≡ market_taking (cube_position market.old) tick (answer_told answer.now) }
+{
+    if let (Some(tick), Answer::Accepted) = (tick, answer) {
+        let _ = market.tick(tick);
     }
 }
 
@@ -41,48 +54,50 @@ fn range_in(market: &CubeMarket, question: RangeQuestion) -> Reply
     Reply::to_range(permitted_range(market, side, limit))
 }
 
-// Writes the answer to a line, and hands on the answers behind it.
-fn write_line<'a>(
+// Makes the call of a line, if it says one, and writes what the line is answered.
+fn write_line(
+    heap: Global,
     text: &mut String,
+    desk: &mut CubeDesk,
     market: &mut CubeMarket,
-    line: &Line,
-    answers: &'a [Answer<CubeFault>],
-) -> Result<&'a [Answer<CubeFault>], AllocError>
-    ensures text { OnOk result (string_bytes text.new ≡ string_bytes text.old ++ whole_line (cube_position market.old) line.now.number (said_told line.now.said) (map answer_told answers.now)) }
-    ensures market { OnOk result (cube_position market.new ≡ market_behind (cube_position market.old) (said_told line.now.said) (map answer_told answers.now)) }
-    ensures behind { IfOk result (λ rest. map answer_told rest.now ≡ answers_behind (said_told line.now.said) (map answer_told answers.now)) }
+    line: Line,
+) -> Result<(), AllocError>
+    ensures text { OnOk result (string_bytes text.new ≡ string_bytes text.old ++ whole_line_at (cube_position market.old) desk.old (line_told line)) }
+    ensures market { OnOk result (cube_position market.new ≡ market_behind_at (cube_position market.old) desk.old (line_told line)) }
+    ensures desk { OnOk result (DeskBehind desk.old (call_in (said_told line.said)) desk.new) }
 {
-    let number = line.number;
-    match (&line.said, answers) {
-        (Said::Replied(reply), _) => writeln!(text, "{number}: {reply}")?,
-        (Said::Range(question), _) => {
-            let reply = range_in(market, *question);
+    let Line { number, said } = line;
+    match said {
+        Said::Replied(reply) => writeln!(text, "{number}: {reply}")?,
+        Said::Range(question) => {
+            let reply = range_in(market, question);
             writeln!(text, "{number}: {reply}")?;
         }
-        (Said::Call(call), [answer, rest @ ..]) => {
-            take_tick(market, call, answer);
-            let answer = AnswerText(answer);
+        Said::Call(call) => {
+            let tick = tick_in(&call);
+            let answer = desk.call(heap, call)?;
+            take_tick(market, tick, &answer);
+            let answer = AnswerText(&answer);
             writeln!(text, "{number}: {answer}")?;
-            return Ok(rest);
         }
-        (Said::Call(_), []) => {}
     }
-    Ok(answers)
+    Ok(())
 }
 
-// Writes all lines, from a market on.
+// Makes the calls of all lines, and writes what the lines are answered, from a market on.
 fn write_lines(
+    heap: Global,
     text: &mut String,
+    desk: &mut CubeDesk,
     market: CubeMarket,
-    lines: &[Line],
-    answers: &[Answer<CubeFault>],
+    lines: Vec<Line>,
 ) -> Result<(), AllocError>
-    ensures { OnOk result (string_bytes text.new ≡ string_bytes text.old ++ whole_lines (cube_position market) (map line_told lines.now) (map answer_told answers.now)) }
+    ensures text { OnOk result (string_bytes text.new ≡ string_bytes text.old ++ whole_lines_at (cube_position market) desk.old (map line_told (vec_items lines))) }
+    ensures desk { OnOk result (DeskBehind desk.old (calls_in (map line_told (vec_items lines))) desk.new) }
 {
     let mut market = market;
-    let mut answers = answers;
     for line in lines {
-        answers = write_line(text, &mut market, line, answers)?;
+        write_line(heap, text, desk, &mut market, line)?;
     }
     Ok(())
 }
@@ -113,15 +128,17 @@ fn write_end(
 // Carries out the calls of the lines, and writes the answers to all lines and those at the end.
 pub(crate) fn whole_text(
     heap: Global,
-    lines: &[Line],
+    lines: Vec<Line>,
     terms: RoomTerms,
 ) -> Result<String, AllocError>
-    ensures { IfOk result (λ text. WholeTextOf terms (map line_told lines.now) (string_bytes text)) }
+    ensures { IfOk result (λ text. WholeTextOf terms (map line_told (vec_items lines)) (string_bytes text)) }
 {
-    let calls = calls_in(heap, lines, terms.number)?;
-    let Outcome { answers, closed } = carry_out(heap, terms, calls)?;
+    model_keeps_the_promise::<CubeMarket, ChosenInterval, ChosenRanking>(&terms.ranking);
+    let mut desk = desk_of(heap, terms);
     let mut text = String::new(heap);
-    write_lines(&mut text, cube_market(terms.legs), lines, &answers)?;
+    let written = write_lines(heap, &mut text, &mut desk, cube_market(terms.legs), lines);
+    let closed = desk.close();
+    written?;
     write_end(&mut text, &closed.first, &closed.second)?;
     Ok(text)
 }

@@ -1,20 +1,23 @@
--- The text is written of the answers that carrying out the calls came to.
-use Rattle.std.proofs.Common.{◌++◌, ◌∙◌, ap, map, subst}
-use Rattle.script.specs.Told.{answer_told}
-use Rattle.day.specs.CarriedOut.{CarriedOut}
+-- The text is written of the model's answers from the making of the room on.
+use Rattle.std.proofs.Common.{◌++◌, ◌∙◌, ap, map, vec_items}
+use Rattle.day.specs.Calls.{calls_in}
+use Rattle.day.specs.CarriedOut.{answers_to, room_at, world_at, world_in, world_ranked}
 use Rattle.day.specs.ForMember.{text_for}
 use Rattle.day.specs.Lines.{line_told}
+use Rattle.day.proofs.LinesMade.{carried_out}
 use Rattle.day.proofs.transcript.text_for.Goals as goal
 
 pub returns : goal.returns
 returns c =
-    let lines = map line_told c.args.lines.now in
-    let outcome = c.in_ok-answers.field-0 in
+    let terms = c.args.terms in
+    let lines = map line_told (vec_items c.args.lines) in
+    let calls = calls_in lines in
+    let desk = c.desk_of-desk.result in
     record {
-      outcome = outcome;
-      carried_out = subst (λ calls. CarriedOut c.args.terms calls outcome) c.in_ok-calls.ensures c.in_ok-answers.ensures;
+      carried_out = carried_out terms calls c.model_keeps_the_promise.ensures;
       written =
-          c.in_ok-write_lines.ensures
-          ∙ ap (λ before. before ++ text_for c.args.member lines (map answer_told c.deref.result.now)) c.new-text.ensures.bytes
-          ∙ ap (λ answers. text_for c.args.member lines (map answer_told answers)) c.deref.ensures.value;
+          c.in_ok-written.ensures.text
+          ∙ ap (λ before. before ++ text_for c.args.member lines (answers_to (world_at desk) (room_at desk) calls)) c.new-text.ensures.bytes
+          ∙ ap (λ r. text_for c.args.member lines (answers_to (world_ranked r) (room_at desk) calls)) c.desk_of-desk.ensures.ranking
+          ∙ ap (λ s. text_for c.args.member lines (answers_to (world_in terms) s calls)) c.desk_of-desk.ensures.room;
     }

@@ -1,12 +1,22 @@
--- What is written so far, with what the lines to come say from the market as it is, is what all of them say.
-use Rattle.std.proofs.Common.{◌≡◌, ◌++◌, drop, map, string_bytes}
+-- What is written so far, with what the lines to come say at the desk and the market as they are, is what all of them say; and
+-- they leave the desk as all of them do.
+use Rattle.std.proofs.Common.{◌≡◌, ◌++◌, map, string_bytes}
+use Rattle.std.specs.Vec.Iter.{into_iter_items}
 use Rattle.market.specs.Cube.{cube_position}
-use Rattle.script.specs.Told.{answer_told}
+use Rattle.day.specs.Calls.{calls_in}
+use Rattle.day.specs.CarriedOut.{answers_to, room_at, room_behind, world_at}
 use Rattle.day.specs.Lines.{line_told}
 use Rattle.day.specs.WholeText.{whole_lines}
 use Rattle.day.proofs.whole.write_lines.Given as goal
 
 abbrev pub invariant-loop-line : goal.invariant-loop-line
 invariant-loop-line l =
-    string_bytes l.text ++ whole_lines (cube_position l.market) (map line_told (drop l.line-index l.fn.lines)) (map answer_told l.answers)
-    ≡ string_bytes l.initial.text ++ whole_lines (cube_position l.fn.market) (map line_told l.fn.lines) (map answer_told l.fn.answers)
+    let w = world_at l.initial.desk in
+    let rest = map line_told (into_iter_items l.line-iterator) in
+    let all = map line_told (into_iter_items l.initial.line-iterator) in
+    record {
+      text : string_bytes l.text ++ whole_lines (cube_position l.market) rest (answers_to w (room_at l.desk) (calls_in rest))
+          ≡ string_bytes l.initial.text ++ whole_lines (cube_position l.fn.market) all (answers_to w (room_at l.initial.desk) (calls_in all));
+      room : room_behind w (room_at l.desk) (calls_in rest) ≡ room_behind w (room_at l.initial.desk) (calls_in all);
+      ranking : l.desk.session.room.ranking ≡ l.initial.desk.session.room.ranking;
+    }
