@@ -12,7 +12,6 @@ use interval::fixed::FixedInterval;
 use market::touch::Touch;
 use room::claim::Claim;
 use room::parts::RoomParts;
-use session::desk::day::{Day, DayDone, run_day};
 use session::desk::{Closed, ClosedAuction, Desk};
 use std::alloc::{AllocError, Global};
 use std::io;
@@ -54,37 +53,36 @@ fn read_day(desk: Desk<Touch, EarlierArrival, CountingSource>) -> DayRead {
     }
 }
 
-// Runs a day over a source that counts its draws. None where memory is wanting.
-fn counted_day(heap: Global, calls: Vec<TouchCall>) -> Option<DayRead> {
-    let day = Day {
-        number: ROOM,
-        market: Touch::new(),
-        ranking: EarlierArrival,
-        source: CountingSource::new(),
-        calls,
-    };
-    match run_day(heap, day) {
-        Ok(DayDone { answers: _, desk }) => Some(read_day(desk)),
-        Err(
-            Day {
-                number: _,
-                market: _,
-                ranking: _,
-                source,
-                calls: _,
-            },
-        ) => {
-            let _none_drawn = source.into_drawn();
-            None
-        }
+// Makes the calls, one after another.
+fn make_all(
+    heap: Global,
+    desk: &mut Desk<Touch, EarlierArrival, CountingSource>,
+    calls: Vec<TouchCall>,
+) -> Result<(), AllocError> {
+    for call in calls {
+        let _answer = desk.call(heap, call)?;
     }
+    Ok(())
+}
+
+// A day over a source that counts its draws.
+fn counted_day(heap: Global, calls: Vec<TouchCall>) -> Result<DayRead, AllocError> {
+    let mut desk = Desk::new(
+        heap,
+        ROOM,
+        Touch::new(),
+        EarlierArrival,
+        CountingSource::new(),
+    );
+    let made = make_all(heap, &mut desk, calls);
+    let read = read_day(desk);
+    made?;
+    Ok(read)
 }
 
 fn show_day(rt: &HostRuntime) -> io::Result<()> {
     let heap = rt.alloc();
-    let Some(read) = counted_day(heap, calls(heap)?) else {
-        return println!(rt; "  memory was wanting{}", verdict(false));
-    };
+    let read = counted_day(heap, calls(heap)?)?;
     print_closed(rt, &read.first)?;
     print_closed(rt, &read.second)?;
     println!(rt;

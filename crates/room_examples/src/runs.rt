@@ -11,8 +11,8 @@ use allocation::rankings::EarlierArrival;
 use interval::fixed::FixedInterval;
 use market::touch::Touch;
 use room::claim::Claim;
-use session::handed::{Finished, Handed};
-use session::run::run;
+use room::room::Room;
+use session::session::Session;
 use std::alloc::{AllocError, Global};
 use std::io;
 
@@ -37,6 +37,15 @@ fn only(purse: Vec<Claim>) -> Claim
     claim
 }
 
+// The only claim of a session.
+fn claim_of(session: Session<Touch, EarlierArrival, FixedInterval>) -> Claim
+    requires { session.purse.numbers ≡ claim_to 1 1 ∷ [] }
+    ensures { claim_numbers result ≡ claim_to 1 1 }
+{
+    let (_room, purse) = session.into_parts();
+    only(purse)
+}
+
 // The run of room 2 with a purse that has the claim of room 1: what it answers, and the claim.
 fn run_with(
     heap: Global,
@@ -48,34 +57,11 @@ fn run_with(
     requires purse { map claim_numbers (vec_items purse) ≡ claim_to 1 1 ∷ [] }
     ensures { claim_numbers result.1 ≡ claim_to 1 1 }
 {
-    let handed = Handed {
-        number: 2,
-        market: Touch::new(),
-        ranking: EarlierArrival,
-        source,
-        calls,
-        purse,
-    };
-    match run(heap, handed) {
-        Ok(finished) => {
-            let Finished {
-                answers,
-                room: _,
-                purse,
-            } = finished;
-            (Some(answers), only(purse))
-        }
-        Err(back) => {
-            let Handed {
-                number: _,
-                market: _,
-                ranking: _,
-                source: _,
-                calls: _,
-                purse,
-            } = back;
-            (None, only(purse))
-        }
+    let room = Room::new(2, Touch::new(), EarlierArrival, source);
+    let mut session = Session::new(heap, room, purse);
+    match session.run(heap, calls) {
+        Ok(answers) => (Some(answers), claim_of(session)),
+        Err(_calls) => (None, claim_of(session)),
     }
 }
 

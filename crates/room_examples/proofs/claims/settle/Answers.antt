@@ -1,5 +1,6 @@
 -- After the halt the one claim collects, and the room has kept its number.
-use Rattle.std.proofs.Common.{◌≡◌, ◌∷◌, [], ℕ, Bool, true, false, cond, max, IsOk, sym, refl, ap, ◌∙◌, subst}
+use Rattle.std.proofs.Common.{◌≡◌, ◌∷◌, [], Bool, true, false, cond, max, IsOk, sym, refl, ap, ◌∙◌, subst}
+use Rattle.std.specs.Str.{byte}
 use Rattle.room.specs.Rooms.{claim_numbers, collected_answer, state_of, world_of}
 use Rattle.room.specs.Clock.{due}
 use Rattle.room.specs.State.{RoomState, at_time, ended}
@@ -7,13 +8,13 @@ use Rattle.session.specs.declared.calls.Call.TheVariants.{Halt}
 use Rattle.session.specs.Claims.{claims_to}
 use Rattle.session.specs.Sessions.{session_of}
 use Rattle.session.proofs.ClaimsKept.{match_kept}
-use Rattle.session.proofs.Closing.{ok_as_told, first_collected}
+use Rattle.session.proofs.Closing.{first_collected, ok_as_told}
 use Rattle.room_examples.proofs.claims.settle.Goals as goal
 
 -- the clock step keeps the room's number
-number_kept : {P Q : Type 0} (b : Bool) (cause : ℕ) (s : RoomState P Q) → (cond b (ended cause s) s).number ≡ s.number
-number_kept true cause s = refl
-number_kept false cause s = refl
+number_kept : {P Q : Type 0} (b : Bool) (s : RoomState P Q) → (cond b (ended (byte "T") s) s).number ≡ s.number
+number_kept true s = refl
+number_kept false s = refl
 
 -- Halting leaves the claims to the room's auctions, and none is open, so the first of them collects.
 pub unwrap-requires-2 : goal.unwrap-requires-2
@@ -37,4 +38,4 @@ returns g c =
     let number = λ (s : RoomState g.M.Market.Position g.S.IntervalSource.Position). s.number in
     let kept = match_kept w (session_of first (claim_numbers claim ∷ [])) (Halt 0) (sym c.requires) ∙ sym (ap claims_to c.halt.ensures.state) in
     let did = first_collected w halted (claim_numbers claim) [] halted.waiting (ap (λ (s : RoomState g.M.Market.Position g.S.IntervalSource.Position). s.current) c.halt.ensures.state) refl kept in
-    ap number (c.collect.ensures.state ∙ did.state_is) ∙ ap number c.halt.ensures.state ∙ number_kept (due (max first.time 0) first.current) _ (at_time (max first.time 0) first)
+    ap number (c.collect.ensures.state ∙ did.state_is) ∙ ap number c.halt.ensures.state ∙ number_kept (due (max first.time 0) first.current) (at_time (max first.time 0) first)
