@@ -22,7 +22,7 @@ use room::requests::OpeningRequest;
 use room::room::Room;
 use std::alloc::{AllocError, Global};
 
-/// A room with a purse of claims, also of other rooms. Neither may be let go, so a session is taken apart at its end.
+/// A room with a purse of claims, also of other rooms. A claim may not be let go, so a session is taken apart at its end.
 pub struct Session<M, R, S> {
     pub(crate) room: Room<M, R, S>,
     pub(crate) purse: Purse,
