@@ -1,8 +1,10 @@
 // Making a desk, and calls at it.
-ghost use Rattle.std.specs.Prelude.{◌≡◌, IfOk, OnErr, OnOk};
+ghost use Rattle.std.specs.Prelude.{◌≡◌, IfErr, IfOk, OnErr, OnOk, vec_items};
 ghost use Rattle.room.specs.Rooms.{state_of, world_of};
 ghost use Rattle.room.specs.State.{new_room};
 ghost use Rattle.session.specs.Desks.{desk_after, desk_answer};
+ghost use Rattle.session.specs.Made.{session_world};
+ghost use Rattle.session.specs.SessionRuns.{RunAsModelled};
 ghost use Rattle.session.specs.Told.{told};
 
 use super::Desk;
@@ -46,5 +48,21 @@ impl<M: Market, R: Ranking, S: IntervalSource> Desk<M, R, S> {
     {
         self.session.reserve(heap, 1, call.lists())?;
         Ok(self.session.make_call(call))
+    }
+
+    /// Carries out calls, one after another: the answers in their order. Where memory is wanting, no call was made, and the calls
+    /// come back.
+    pub fn run(
+        &mut self,
+        heap: Global,
+        calls: Vec<Call<M::Tick>>,
+    ) -> Result<Vec<Answer<M::Fault>>, Vec<Call<M::Tick>>>
+    where
+        M::Tick: Drop,
+        ensures run { IfOk result (λ answers. RunAsModelled M.Market.told M.Market.position S.IntervalSource.position (session_world M.Market.meaning S.IntervalSource.meaning R.Ranking.ahead self.old.session) self.old.session self.new.session (vec_items calls) (vec_items answers)) }
+        ensures calls_back { IfErr result (λ back. back ≡ calls) }
+        ensures unmade { OnErr result (self.new.session.room ≡ self.old.session.room) }
+    {
+        self.session.run(heap, calls)
     }
 }
