@@ -5,13 +5,13 @@ use Rattle.std.specs.List.{AllZip, AllByRecursion}
 use Rattle.std.proofs.ByRecursion.{All-map}
 use Rattle.std.proofs.lemmas.Bool.{lt-ltb, cases_lt}
 use Rattle.market.specs.declared.side.Side.{Side}
-use Rattle.market.specs.Turned.{turned}
+use Rattle.market.specs.Side.{turned}
 use Rattle.allocation.specs.declared.fill.FillRow.{FillRow}
 use Rattle.allocation.specs.declared.response.Class.{Class}
 use Rattle.allocation.specs.declared.response.Response.{Response}
 use Rattle.allocation.specs.FillLaws.{Listed, response_told, listed_of, row_listed, of_response, filled_in, size_in, ProRata}
-use Rattle.allocation.specs.FillList.{fill_row, class_rows, shared_rows}
-use Rattle.allocation.specs.Shares.{sizes, total, shared}
+use Rattle.allocation.specs.Fill.{fill_row, class_rows, shared_rows}
+use Rattle.allocation.specs.Share.{sizes, total, shared}
 use Rattle.allocation.proofs.LevelShape.{At}
 use Rattle.allocation.proofs.ShareFacts.{Fair, fair_shared, each_same}
 

@@ -12,10 +12,10 @@ use Rattle.allocation.specs.declared.order.GuaranteeKind.TheVariants.{SingleStop
 use Rattle.allocation.specs.declared.response.Response.{Response}
 use Rattle.allocation.specs.ContraLaws.{of_contra, of_other, row_price, priced_at, priced_below, priced_up_to, got, GuaranteeAllows, Matched, MatchedAll, TooFewToMatch, ContraLaws}
 use Rattle.allocation.specs.FillLaws.{of_response, ContraRow}
-use Rattle.allocation.specs.FillList.{split_at, fills}
+use Rattle.allocation.specs.Fill.{split_at, fills}
 use Rattle.allocation.specs.Levels.{Level, contra_level, flat}
-use Rattle.allocation.specs.Shares.{sizes, total}
-use Rattle.allocation.specs.Splits.{taken}
+use Rattle.allocation.specs.Share.{sizes, total}
+use Rattle.allocation.specs.Split.{taken}
 use Rattle.allocation.proofs.ClassRows.{rows_none}
 use Rattle.allocation.proofs.ContraRows.{LevelParts, level_parts, CountsHere, CountsAbove, counts_here, counts_above}
 use Rattle.allocation.proofs.ContraSplits.{NoneYet, ContraSplit, contra_split}

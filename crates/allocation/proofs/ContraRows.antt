@@ -13,10 +13,10 @@ use Rattle.allocation.specs.declared.response.Class.TheVariants.{Customer, Other
 use Rattle.allocation.specs.declared.response.Response.{Response}
 use Rattle.allocation.specs.ContraLaws.{of_contra, of_other, row_price, priced_at, priced_below, priced_up_to, got, asked}
 use Rattle.allocation.specs.FillLaws.{of_response, kept, filled_in, size_in, same_price, same_class, ContraRow}
-use Rattle.allocation.specs.FillList.{shared_rows, contra_rows, level_rows}
+use Rattle.allocation.specs.Fill.{shared_rows, contra_rows, level_rows}
 use Rattle.allocation.specs.Levels.{Level}
-use Rattle.allocation.specs.Shares.{sizes, total}
-use Rattle.allocation.specs.Splits.{Split}
+use Rattle.allocation.specs.Share.{sizes, total}
+use Rattle.allocation.specs.Split.{Split}
 use Rattle.allocation.proofs.ClassRows.{ClassRows, class_laws}
 use Rattle.allocation.proofs.LevelRows.{Stands, ContraRows, contra_laws}
 use Rattle.allocation.proofs.LevelShape.{Holds}

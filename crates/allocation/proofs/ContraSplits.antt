@@ -7,7 +7,7 @@ use Rattle.allocation.specs.declared.order.ContraTerms.{ContraTerms}
 use Rattle.allocation.specs.declared.order.GuaranteeKind.{GuaranteeKind}
 use Rattle.allocation.specs.declared.order.GuaranteeKind.TheVariants.{SingleStop, AutoMatchLimit}
 use Rattle.allocation.specs.ContraLaws.{GuaranteeAllows}
-use Rattle.allocation.specs.Splits.{Split, others_share, matched, clean_up, nothing_trades, stop_rest, match_between, match_rest, rest_by, with_customers, split, taken}
+use Rattle.allocation.specs.Split.{Split, others_share, matched, clean_up, nothing_trades, stop_rest, match_between, match_rest, rest_by, with_customers, split, taken}
 
 -- Under a single stop the contra has got nothing yet, or nothing is left.
 abbrev pub NoneYet : GuaranteeKind → ℕ → ℕ → Type 0

@@ -10,16 +10,16 @@ use Rattle.std.proofs.lemmas.List.{append-nil, append_assoc, map-append}
 use Rattle.std.proofs.lemmas.Bool.{cases_lt}
 use Rattle.std.proofs.lemmas.Simd.{map-map}
 use Rattle.market.specs.declared.side.Side.{Side}
-use Rattle.market.specs.Turned.{turned}
+use Rattle.market.specs.Side.{turned}
 use Rattle.allocation.specs.declared.fill.FillRow.{FillRow}
 use Rattle.allocation.specs.declared.order.ContraTerms.{ContraTerms}
 use Rattle.allocation.specs.declared.response.Class.TheVariants.{Customer, Other}
 use Rattle.allocation.specs.declared.response.Response.{Response}
 use Rattle.allocation.specs.FillLaws.{Listed, response_told, listed_of, row_listed, of_response, kept, filled_in, size_in, classmate, classmates, ProRata, ContraRow, FillLaws}
-use Rattle.allocation.specs.FillList.{level_rows, split_at, fills}
+use Rattle.allocation.specs.Fill.{level_rows, split_at, fills}
 use Rattle.allocation.specs.Levels.{Level, contra_level, flat}
-use Rattle.allocation.specs.Shares.{sizes, total}
-use Rattle.allocation.specs.Splits.{taken}
+use Rattle.allocation.specs.Share.{sizes, total}
+use Rattle.allocation.specs.Split.{taken}
 use Rattle.allocation.proofs.ClassRows.{listed, rows_none}
 use Rattle.allocation.proofs.LevelRows.{Stands, LevelLaws, level_laws}
 use Rattle.allocation.proofs.LevelShape.{Holds, Ascending, Among}

@@ -9,7 +9,7 @@ use Rattle.std.proofs.lemmas.Bool.Decides.{nat_tests}
 use Rattle.std.specs.List.{AllByRecursion}
 use Rattle.std.specs.Prelude.{◌≢◌}
 use Rattle.market.specs.declared.side.Side.{Side}
-use Rattle.market.specs.Prices.{showable}
+use Rattle.market.specs.Limits.{showable}
 use Rattle.allocation.specs.declared.fill.FillRow.{FillRow}
 use Rattle.allocation.specs.declared.order.ContraTerms.{ContraTerms}
 use Rattle.allocation.specs.declared.order.GuaranteeKind.{GuaranteeKind}
@@ -17,19 +17,19 @@ use Rattle.allocation.specs.declared.order.GuaranteeKind.TheVariants.{SingleStop
 use Rattle.allocation.specs.declared.order.PairedOrder.{PairedOrder}
 use Rattle.allocation.specs.declared.response.Key.{Key}
 use Rattle.allocation.specs.declared.response.Response.{Response}
-use Rattle.allocation.specs.Arranged.{arranged}
+use Rattle.allocation.specs.Arrange.{arranged}
 use Rattle.allocation.specs.Auction.{AuctionValues, told_of, auction_fills}
 use Rattle.allocation.specs.AuctionInvariant.{from_to, stop_ok, range_ok, guarantee_ok, terms_ok, response_ok, each, arrivals_apart, owns_apart}
 use Rattle.allocation.specs.ContraLaws.{ContraLaws}
 use Rattle.allocation.specs.FillLaws.{Told, response_told, FillLaws}
-use Rattle.allocation.specs.FillList.{fills, fill_list, contra_terms, order_levels}
+use Rattle.allocation.specs.Fill.{fills, fill_list, contra_terms, order_levels}
 use Rattle.allocation.specs.Levels.{Level, levels, contra_level, flat}
 use Rattle.allocation.specs.LevelSteps.{Sized, Sound}
 use Rattle.allocation.specs.OnlyRows.{LawfulRows, share_guaranteed}
 use Rattle.allocation.specs.OnlyShares.{OnlyTheseShares}
-use Rattle.allocation.specs.Rankings.{by_key}
+use Rattle.allocation.specs.Ranking.{by_key}
 use Rattle.allocation.specs.RowLaws.{RowLaws}
-use Rattle.allocation.specs.Splits.{guaranteed}
+use Rattle.allocation.specs.Split.{guaranteed}
 use Rattle.allocation.specs.Walk.{walked}
 use Rattle.allocation.proofs.AuctionKept.{both_left, both_right}
 use Rattle.allocation.proofs.ContraFacts.{fills_contra_lawful}

@@ -3,7 +3,7 @@
 use Rattle.std.proofs.Common.{◌≡◌, ◌⊎◌, inl, inr, List, [], ◌∷◌, ◌++◌, map, sym, refl, ap, ◌∙◌, subst}
 use Rattle.std.specs.List.{AllByRecursion}
 use Rattle.std.proofs.ByRecursion.{All-append, All-weaker, All-map}
-use Rattle.allocation.specs.Rankings.{AllInOrder}
+use Rattle.allocation.specs.Ranking.{AllInOrder}
 use Rattle.allocation.proofs.RowLists.{all_both}
 
 module _ {X : Type 0} where

@@ -9,20 +9,20 @@ use Rattle.std.proofs.lemmas.Bool.{cases_lt, not-true, both_ways}
 use Rattle.std.proofs.lemmas.List.Recursion.{is_sum_by}
 use Rattle.std.proofs.lemmas.List.Sorted.{sum_by-IsPermutation}
 use Rattle.market.specs.declared.side.Side.{Side}
-use Rattle.market.specs.Turned.{turned}
+use Rattle.market.specs.Side.{turned}
 use Rattle.allocation.specs.declared.fill.FillRow.{FillRow}
 use Rattle.allocation.specs.declared.order.ContraTerms.{ContraTerms}
 use Rattle.allocation.specs.declared.order.GuaranteeKind.{GuaranteeKind}
 use Rattle.allocation.specs.declared.order.GuaranteeKind.TheVariants.{SingleStop, AutoMatchLimit}
 use Rattle.allocation.specs.declared.response.Class.{Class}
 use Rattle.allocation.specs.declared.response.Class.TheVariants.{Customer, Other}
-use Rattle.allocation.specs.Classes.{class_number}
+use Rattle.allocation.specs.Response.{class_number}
 use Rattle.allocation.specs.ContraLaws.{of_contra, of_customer, of_other, row_price, priced_at, priced_below, priced_up_to, got, asked, GuaranteeAllows, Matched, MatchedAll, TooFewToMatch, ContraLaws}
 use Rattle.allocation.specs.FillLaws.{Told, Listed, listed_of, row_listed, of_response, kept, filled_in, size_in, same_price, same_class, FillLaws}
 use Rattle.allocation.specs.Levels.{contra_level}
 use Rattle.allocation.specs.OnlyShares.{SameShares}
-use Rattle.allocation.specs.Shares.{total}
-use Rattle.allocation.specs.Splits.{split}
+use Rattle.allocation.specs.Share.{total}
+use Rattle.allocation.specs.Split.{split}
 use Rattle.allocation.proofs.AuctionKept.{both_left, both_right}
 use Rattle.allocation.proofs.Mates.{turned_twice}
 use Rattle.allocation.proofs.RowCounts.{priced_beyond, responses_got, responses_asked, at_price, contra_up_to, all_rows, below_next, contra_below_next, got_most, trades, lacks, stands, nothing, transposed}

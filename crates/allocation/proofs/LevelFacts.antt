@@ -13,9 +13,9 @@ use Rattle.allocation.specs.declared.response.Class.{Class}
 use Rattle.allocation.specs.declared.response.Class.TheVariants.{Customer, Other}
 use Rattle.allocation.specs.declared.response.Key.{Key}
 use Rattle.allocation.specs.declared.response.Response.{Response}
-use Rattle.allocation.specs.Arranged.{class_before, before, arranged}
+use Rattle.allocation.specs.Arrange.{class_before, before, arranged}
 use Rattle.allocation.specs.Levels.{Level, put, join_as, join, empty_level, place, levels, flat}
-use Rattle.allocation.specs.Rankings.{AllInOrder, Ordered, by_key}
+use Rattle.allocation.specs.Ranking.{AllInOrder, Ordered, by_key}
 use Rattle.allocation.proofs.LevelShape.{At, Holds, Ascending, Among}
 use Rattle.allocation.proofs.ToldApart.{NotWith}
 

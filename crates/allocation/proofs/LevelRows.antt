@@ -6,7 +6,7 @@ use Rattle.std.proofs.ByRecursion.{All-append, All-weaker}
 use Rattle.std.proofs.lemmas.List.{append-nil, map-append}
 use Rattle.std.proofs.lemmas.Bool.{ltb-true, ltb-false, cases_lt, cond_both, both_ways}
 use Rattle.market.specs.declared.side.Side.{Side}
-use Rattle.market.specs.Turned.{turned}
+use Rattle.market.specs.Side.{turned}
 use Rattle.allocation.specs.declared.fill.FillRow.{FillRow}
 use Rattle.allocation.specs.declared.order.ContraTerms.{ContraTerms}
 use Rattle.allocation.specs.declared.order.GuaranteeKind.{GuaranteeKind}
@@ -15,10 +15,10 @@ use Rattle.allocation.specs.declared.response.Class.{Class}
 use Rattle.allocation.specs.declared.response.Class.TheVariants.{Customer, Other}
 use Rattle.allocation.specs.declared.response.Response.{Response}
 use Rattle.allocation.specs.FillLaws.{row_listed, of_response, kept, filled_in, size_in, same_class, classmate, classmates, ProRata, ContraRow}
-use Rattle.allocation.specs.FillList.{shared_rows, contra_row, contra_rows, level_rows, split_at}
+use Rattle.allocation.specs.Fill.{shared_rows, contra_row, contra_rows, level_rows, split_at}
 use Rattle.allocation.specs.Levels.{Level, contra_level}
-use Rattle.allocation.specs.Shares.{sizes, total}
-use Rattle.allocation.specs.Splits.{Split, taken}
+use Rattle.allocation.specs.Share.{sizes, total}
+use Rattle.allocation.specs.Split.{Split, taken}
 use Rattle.allocation.proofs.ClassRows.{ClassRows, listed, class_laws, rows_none}
 use Rattle.allocation.proofs.LevelShape.{At, Holds}
 use Rattle.allocation.proofs.Mates.{turned_twice, mate_same, mate_contra, mate_class, near_mates}

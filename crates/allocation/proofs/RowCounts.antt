@@ -10,7 +10,7 @@ use Rattle.allocation.specs.declared.response.Class.{Class}
 use Rattle.allocation.specs.declared.response.Class.TheVariants.{Customer, Other}
 use Rattle.allocation.specs.ContraLaws.{of_contra, of_customer, of_other, row_price, priced_at, priced_below, priced_up_to, got, asked}
 use Rattle.allocation.specs.FillLaws.{of_response, kept, filled_in, size_in, same_price, same_class}
-use Rattle.allocation.specs.Shares.{total}
+use Rattle.allocation.specs.Share.{total}
 use Rattle.allocation.proofs.RowLists.{kept_all, all_always, all_both}
 
 -- Rows at a price beyond this one.

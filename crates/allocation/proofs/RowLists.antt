@@ -3,7 +3,7 @@ use Rattle.std.proofs.Common.{◌≡◌, ℕ, ◌+◌, Bool, true, false, cond, 
 use Rattle.std.specs.List.{AllByRecursion}
 use Rattle.std.proofs.ByRecursion.{All-append}
 use Rattle.allocation.specs.FillLaws.{kept}
-use Rattle.allocation.specs.Shares.{total}
+use Rattle.allocation.specs.Share.{total}
 
 module _ {X : Type 0} (p : X → Bool) where
   pub kept_append : (xs ys : List X) → kept p (xs ++ ys) ≡ kept p xs ++ kept p ys

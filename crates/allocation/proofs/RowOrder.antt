@@ -7,7 +7,7 @@ use Rattle.std.specs.List.{AllZip, AllByRecursion}
 use Rattle.std.proofs.ByRecursion.{All-append, All-weaker}
 use Rattle.std.proofs.lemmas.Bool.{cond_both, leb-true, leb-false, cases_lt, both_ways, not_from_true}
 use Rattle.market.specs.declared.side.Side.{Side}
-use Rattle.market.specs.Turned.{turned}
+use Rattle.market.specs.Side.{turned}
 use Rattle.allocation.specs.declared.fill.FillRow.{FillRow}
 use Rattle.allocation.specs.declared.order.ContraTerms.{ContraTerms}
 use Rattle.allocation.specs.declared.response.Class.{Class}
@@ -16,12 +16,12 @@ use Rattle.allocation.specs.declared.response.Key.{Key}
 use Rattle.allocation.specs.declared.response.Response.{Response}
 use Rattle.allocation.specs.ContraLaws.{of_contra, row_price}
 use Rattle.allocation.specs.FillLaws.{Told, of_response, filled_in, size_in, same_class, classmate, classmates}
-use Rattle.allocation.specs.FillList.{fill_row, class_rows, shared_rows, contra_row, contra_rows, level_rows, split_at, fills}
+use Rattle.allocation.specs.Fill.{fill_row, class_rows, shared_rows, contra_row, contra_rows, level_rows, split_at, fills}
 use Rattle.allocation.specs.Levels.{Level, contra_level, flat}
-use Rattle.allocation.specs.Rankings.{AllInOrder, Ordered, by_key, key_of}
+use Rattle.allocation.specs.Ranking.{AllInOrder, Ordered, by_key, key_of}
 use Rattle.allocation.specs.RowLaws.{place_at_price, told_key, Lists, RankedAhead, GotOneMore, RowLaws}
-use Rattle.allocation.specs.Shares.{sizes, total, parts_total, dealt, shared}
-use Rattle.allocation.specs.Splits.{Split, taken}
+use Rattle.allocation.specs.Share.{sizes, total, parts_total, dealt, shared}
+use Rattle.allocation.specs.Split.{Split, taken}
 use Rattle.allocation.proofs.ClassRows.{ClassRows}
 use Rattle.allocation.proofs.FillFacts.{first, later, later_stand, first_at, later_above, mates_in_first, mates_in_later}
 use Rattle.allocation.proofs.InOrder.{in_order_append, in_order_among, in_order_weaker, in_order_both, in_order_none}

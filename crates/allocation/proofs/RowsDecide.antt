@@ -10,7 +10,7 @@ use Rattle.std.proofs.lemmas.Bool.{both_ways, not-true, ltb-false, and_from}
 use Rattle.std.proofs.lemmas.List.Recursion.{is_sum_by}
 use Rattle.std.proofs.lemmas.List.Sorted.{IsPermutation-sym, sum_by-IsPermutation}
 use Rattle.market.specs.declared.side.Side.{Side}
-use Rattle.market.specs.Turned.{turned}
+use Rattle.market.specs.Side.{turned}
 use Rattle.allocation.specs.declared.fill.FillRow.{FillRow}
 use Rattle.allocation.specs.declared.response.Class.{Class}
 use Rattle.allocation.specs.declared.response.Class.TheVariants.{Customer, Other}
@@ -19,9 +19,9 @@ use Rattle.allocation.specs.declared.response.Kind.{Kind}
 use Rattle.allocation.specs.ContraLaws.{of_contra, row_price, priced_at}
 use Rattle.allocation.specs.FillLaws.{Told, Listed, listed_of, row_listed, of_response, kept, filled_in, size_in, same_price, same_class, classmate, classmates, ProRata, ContraRow, FillLaws}
 use Rattle.allocation.specs.OnlyShares.{SameShares}
-use Rattle.allocation.specs.Rankings.{AllInOrder}
+use Rattle.allocation.specs.Ranking.{AllInOrder}
 use Rattle.allocation.specs.RowLaws.{place_at_price, told_key, Lists, RankedAhead, GotOneMore, RowLaws}
-use Rattle.allocation.specs.Shares.{total}
+use Rattle.allocation.specs.Share.{total}
 use Rattle.allocation.proofs.AuctionKept.{both_left, both_right}
 use Rattle.allocation.proofs.InOrder.{IsIn, of_one, all_in, in_map, in_order_map, in_order_among, in_order_both, in_order_weaker, any_two, same_list}
 use Rattle.allocation.proofs.LawsDecide.{asked_by_those_told, second_class, same_is, same_row_price}

@@ -8,7 +8,7 @@ use Rattle.std.proofs.lemmas.List.Recursion.{is_sum_by}
 use Rattle.std.proofs.lemmas.List.Sums.{sum-map, get_or-le-sum_by}
 use Rattle.allocation.specs.declared.response.Response.{Response}
 use Rattle.allocation.specs.LevelSteps.{Sized}
-use Rattle.allocation.specs.Shares.{sizes, total, parts_total, dealt, shared}
+use Rattle.allocation.specs.Share.{sizes, total, parts_total, dealt, shared}
 
 -- Shares fs of k contracts among sizes ss.
 pub record Fair (k : ℕ) (ss fs : List ℕ) : Type 0 where

@@ -8,7 +8,7 @@ use Rattle.allocation.specs.declared.order.GuaranteeKind.{GuaranteeKind}
 use Rattle.allocation.specs.declared.order.GuaranteeKind.TheVariants.{SingleStop, AutoMatchLimit}
 use Rattle.allocation.specs.ContraLaws.{GuaranteeAllows}
 use Rattle.allocation.specs.Levels.{contra_level}
-use Rattle.allocation.specs.Splits.{Rest, others_share, matched, clean_up, nothing_trades, stop_rest, match_between, match_rest, rest_by, split}
+use Rattle.allocation.specs.Split.{Rest, others_share, matched, clean_up, nothing_trades, stop_rest, match_between, match_rest, rest_by, split}
 
 -- Of r contracts customers, contra and others get k, x and o at a price, and y is what trades beyond it. The contra has m
 -- from better prices; customers and others ask for c and n.

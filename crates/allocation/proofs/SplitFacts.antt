@@ -8,7 +8,7 @@ use Rattle.allocation.specs.declared.order.ContraTerms.{ContraTerms}
 use Rattle.allocation.specs.declared.order.GuaranteeKind.{GuaranteeKind}
 use Rattle.allocation.specs.declared.order.GuaranteeKind.TheVariants.{SingleStop, AutoMatchLimit}
 use Rattle.allocation.specs.Levels.{contra_level}
-use Rattle.allocation.specs.Splits.{Split, Rest, others_share, matched, clean_up, nothing_trades, stop_rest, match_between, match_rest, rest_by, split, taken}
+use Rattle.allocation.specs.Split.{Split, Rest, others_share, matched, clean_up, nothing_trades, stop_rest, match_between, match_rest, rest_by, split, taken}
 
 -- A level is up to the contra's own price, or nothing is left there.
 abbrev pub Reached : ℤ → ℤ → ℕ → Type 0

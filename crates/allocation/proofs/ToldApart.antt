@@ -8,9 +8,9 @@ use Rattle.market.specs.declared.side.Side.{Side}
 use Rattle.allocation.specs.declared.response.Response.{Response}
 use Rattle.allocation.specs.AuctionInvariant.{own_free, owns_apart, arrival_free, arrivals_apart}
 use Rattle.allocation.specs.FillLaws.{Told, Listed, response_told}
-use Rattle.allocation.specs.Rankings.{AllInOrder, key_of}
+use Rattle.allocation.specs.Ranking.{AllInOrder, key_of}
 use Rattle.allocation.specs.RowLaws.{told_key}
-use Rattle.allocation.specs.Shares.{total}
+use Rattle.allocation.specs.Share.{total}
 use Rattle.allocation.specs.Table.{is_of}
 use Rattle.allocation.proofs.AuctionKept.{both_left, both_right}
 use Rattle.allocation.proofs.InOrder.{any_two, in_order_map}

@@ -16,10 +16,10 @@ use Rattle.allocation.specs.declared.response.Class.{Class}
 use Rattle.allocation.specs.declared.response.Class.TheVariants.{Customer, Other}
 use Rattle.allocation.specs.declared.response.Response.{Response}
 use Rattle.allocation.specs.FillLaws.{same_price, same_class}
-use Rattle.allocation.specs.FillList.{fills, level_rows, split_at}
+use Rattle.allocation.specs.Fill.{fills, level_rows, split_at}
 use Rattle.allocation.specs.Levels.{Level, place, levels, flat}
 use Rattle.allocation.specs.LevelSteps.{stands_at, leading, next_price, counted_level, front_level}
-use Rattle.allocation.specs.Splits.{taken}
+use Rattle.allocation.specs.Split.{taken}
 use Rattle.allocation.specs.Walk.{still_to_come, behind_level, walked}
 use Rattle.allocation.proofs.LevelFacts.{above_flat, holds_levels, ascending_levels, filled_or_contra, among_levels}
 use Rattle.allocation.proofs.LevelShape.{At, Holds, Ascending, Among}

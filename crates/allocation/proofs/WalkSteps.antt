@@ -6,7 +6,7 @@ use lib.Signed.{lt_z}
 use Rattle.std.proofs.lemmas.List.{length-take, length-take-le, drop-drop, append-nil, take-append-drop}
 use Rattle.std.proofs.lemmas.Bool.{cond_both, ltb-true, ltb-false}
 use Rattle.market.specs.declared.side.Side.{Side}
-use Rattle.market.specs.Prices.{showable}
+use Rattle.market.specs.Limits.{showable}
 use Rattle.allocation.specs.declared.fill.FillRow.{FillRow}
 use Rattle.allocation.specs.declared.order.ContraTerms.{ContraTerms}
 use Rattle.allocation.specs.declared.response.Class.{Class}
@@ -15,11 +15,11 @@ use Rattle.allocation.specs.declared.response.Response.{Response}
 use Rattle.allocation.specs.declared.split.Split.{Split}
 use Rattle.allocation.specs.declared.walk.Walk.{Walk}
 use Rattle.allocation.specs.FillLaws.{same_price, same_class}
-use Rattle.allocation.specs.FillList.{split_at, class_rows, shared_rows, contra_row, contra_rows, level_rows}
+use Rattle.allocation.specs.Fill.{split_at, class_rows, shared_rows, contra_row, contra_rows, level_rows}
 use Rattle.allocation.specs.Levels.{Level}
 use Rattle.allocation.specs.LevelSteps.{stands_at, leading, next_price, front_level}
-use Rattle.allocation.specs.Shares.{sizes, total, shared, dealt, parts_total}
-use Rattle.allocation.specs.Splits.{taken}
+use Rattle.allocation.specs.Share.{sizes, total, shared, dealt, parts_total}
+use Rattle.allocation.specs.Split.{taken}
 use Rattle.allocation.proofs.ShareFacts.{length_dealt}
 use Rattle.allocation.proofs.Writes.{mid_take, mid_drop}
 use Rattle.allocation.specs.Walk.{behind_level, still_to_come, walked, walk_level, walk_split, walk_on}

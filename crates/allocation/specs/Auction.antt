@@ -9,10 +9,10 @@ use Rattle.allocation.specs.declared.response.Key.{Key}
 use Rattle.allocation.specs.declared.response.Response.{Response}
 use Rattle.allocation.specs.AuctionInvariant.{terms_ok, stored_ok, response_ok, arrival_free}
 use Rattle.allocation.specs.FillLaws.{Told, response_told}
-use Rattle.allocation.specs.FillList.{fill_list, order_levels}
+use Rattle.allocation.specs.Fill.{fill_list, order_levels}
 use Rattle.allocation.specs.Levels.{Level}
 use Rattle.allocation.specs.OnlyRows.{LawfulRows}
-use Rattle.allocation.specs.Rankings.{Ordered}
+use Rattle.allocation.specs.Ranking.{Ordered}
 use Rattle.allocation.specs.Table.{standing, place_of, rewritten, without_place, any_below}
 
 -- The order with its guarantee as stored, the range, and the responses that stand; prices are turned.

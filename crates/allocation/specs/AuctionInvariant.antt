@@ -1,6 +1,6 @@
 -- What holds of every auction, so that its contracts can be shared out: prices are turned.
 use Rattle.std.specs.Prelude.{ℕ, Bool, true, not, ◌&&◌, List, [], ◌∷◌, ℤ, Some, ◌==◌, int_le, nat_le}
-use Rattle.market.specs.Prices.{showable}
+use Rattle.market.specs.Limits.{showable}
 use Rattle.allocation.specs.Table.{is_of}
 use Rattle.allocation.specs.declared.order.Guarantee.{Guarantee}
 use Rattle.allocation.specs.declared.order.GuaranteeKind.{GuaranteeKind}

@@ -3,15 +3,15 @@ use Rattle.std.specs.Prelude.{◌≡◌, ℕ, ◌+◌, ◌*◌, ◌/◌, ◌<◌
 use Rattle.std.specs.List.{AllByRecursion}
 use Rattle.std.specs.List.Sorted.{IsPermutation}
 use Rattle.market.specs.declared.side.Side.{Side}
-use Rattle.market.specs.Turned.{turned}
+use Rattle.market.specs.Side.{turned}
 use Rattle.allocation.specs.declared.fill.FillRow.{FillRow}
 use Rattle.allocation.specs.declared.response.Class.{Class}
 use Rattle.allocation.specs.declared.response.Class.TheVariants.{Customer, Other}
 use Rattle.allocation.specs.declared.response.Kind.{Kind}
 use Rattle.allocation.specs.declared.response.Kind.TheVariants.{Plain}
 use Rattle.allocation.specs.declared.response.Response.{Response}
-use Rattle.allocation.specs.Classes.{class_number}
-use Rattle.allocation.specs.Shares.{total}
+use Rattle.allocation.specs.Response.{class_number}
+use Rattle.allocation.specs.Share.{total}
 
 -- A response as it is told: all that it is, with its price not turned.
 pub record Told : Type 0 where

@@ -2,7 +2,7 @@
 use Rattle.std.specs.Prelude.{◌≡◌, ℕ, suc, ◌≤◌, Bool, true, cond, ◌&&◌, List, [], ◌∷◌, length, take, drop, ℤ, Some, None, Option}
 use Rattle.std.specs.Int.{int_min}
 use Rattle.std.specs.List.{AllByRecursion}
-use Rattle.market.specs.Prices.{showable}
+use Rattle.market.specs.Limits.{showable}
 use Rattle.allocation.specs.declared.response.Class.{Class}
 use Rattle.allocation.specs.declared.response.Class.TheVariants.{Customer, Other}
 use Rattle.allocation.specs.declared.response.Response.{Response}

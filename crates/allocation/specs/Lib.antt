@@ -1,15 +1,15 @@
 -- The rules of sharing out an auction's contracts, and the values of an auction, a file a topic. LevelSteps, Plans and Walk are
 -- words for the code's inner steps.
-pub mod Causes
-pub mod Classes
-pub mod Guarantees
-pub mod Refusals
-pub mod Rankings
-pub mod Shares
-pub mod Splits
+pub mod Cause
+pub mod Response
+pub mod Order
+pub mod Refusal
+pub mod Ranking
+pub mod Share
+pub mod Split
 pub mod Levels
-pub mod Arranged
-pub mod FillList
+pub mod Arrange
+pub mod Fill
 pub mod FillLaws
 pub mod ContraLaws
 pub mod OnlyShares

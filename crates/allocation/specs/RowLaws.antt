@@ -7,7 +7,7 @@ use Rattle.allocation.specs.declared.fill.FillRow.{FillRow}
 use Rattle.allocation.specs.declared.response.Key.{Key}
 use Rattle.allocation.specs.ContraLaws.{of_contra, of_customer, row_price}
 use Rattle.allocation.specs.FillLaws.{Told, listed_of, row_listed, of_response, filled_in, size_in, classmate, classmates}
-use Rattle.allocation.specs.Rankings.{AllInOrder}
+use Rattle.allocation.specs.Ranking.{AllInOrder}
 
 -- At one price: customers' rows, the contra's, others'.
 abbrev pub place_at_price : FillRow → ℕ

@@ -8,10 +8,10 @@ use Rattle.allocation.specs.declared.response.Response.{Response}
 use Rattle.allocation.specs.declared.split.Split.{Split}
 use Rattle.allocation.specs.declared.walk.Walk.{Walk}
 use Rattle.allocation.specs.FillLaws.{same_price}
-use Rattle.allocation.specs.FillList.{level_rows, split_at}
+use Rattle.allocation.specs.Fill.{level_rows, split_at}
 use Rattle.allocation.specs.Levels.{Level}
 use Rattle.allocation.specs.LevelSteps.{next_price, front_level}
-use Rattle.allocation.specs.Splits.{taken}
+use Rattle.allocation.specs.Split.{taken}
 
 -- The contra's own price is still to come, unless this price is it.
 abbrev pub still_to_come : Option ℤ → ℤ → Option ℤ

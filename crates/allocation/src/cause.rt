@@ -1,6 +1,6 @@
 // Why an auction ended, each with the letter by which the venue knows it.
 ghost use Rattle.std.specs.Prelude.{◌≡◌};
-ghost use Rattle.allocation.specs.Causes.{cause_letter};
+ghost use Rattle.allocation.specs.Cause.{cause_letter};
 
 #[derive(Clone, Copy, PartialEq, Eq, Debug)]
 pub enum EndCause {

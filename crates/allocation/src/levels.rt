@@ -1,9 +1,9 @@
 // Levels: from arranged responses to the customers and the others at one price, what each gets there, and its rows.
 ghost use Rattle.std.specs.Prelude.{◌≡◌, ◌≤◌, true, length, take, drop, Some};
-ghost use Rattle.market.specs.Prices.{showable};
-ghost use Rattle.allocation.specs.FillList.{contra_row, level_rows, split_at};
+ghost use Rattle.market.specs.Limits.{showable};
+ghost use Rattle.allocation.specs.Fill.{contra_row, level_rows, split_at};
 ghost use Rattle.allocation.specs.LevelSteps.{stands_at, leading, front_level};
-ghost use Rattle.allocation.specs.Splits.{taken};
+ghost use Rattle.allocation.specs.Split.{taken};
 
 use crate::fill::FillRow;
 use crate::order::ContraTerms;

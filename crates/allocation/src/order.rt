@@ -1,7 +1,8 @@
 // The order of an auction, with the guarantee that the contra firm gives for it.
-ghost use Rattle.std.specs.Prelude.{Some};
+ghost use Rattle.std.specs.Prelude.{◌≡◌, Some};
 ghost use Rattle.std.specs.Fmt.{padded};
-ghost use Rattle.allocation.specs.Guarantees.{kind_name};
+ghost use Rattle.allocation.specs.Order.{kind_name};
+ghost use Rattle.allocation.specs.Levels.{contra_level};
 
 use market::side::Side;
 use std::fmt;
@@ -49,4 +50,16 @@ pub struct ContraTerms {
     pub guarantee: Guarantee,
     pub initiating: i64,
     pub guaranteed: u32,
+}
+
+impl ContraTerms {
+    // The contra's own price.
+    pub(crate) fn own_price(&self) -> i64
+        ensures { result ≡ contra_level self.now.guarantee.kind self.now }
+    {
+        match self.guarantee.kind {
+            GuaranteeKind::SingleStop => self.guarantee.price,
+            GuaranteeKind::AutoMatchLimit => self.initiating,
+        }
+    }
 }

@@ -1,6 +1,6 @@
 // The refusal of a fill list, with the number by which the venue knows it.
 ghost use Rattle.std.specs.Prelude.{◌≡◌};
-ghost use Rattle.allocation.specs.Refusals.{fill_number};
+ghost use Rattle.allocation.specs.Refusal.{fill_number};
 
 #[derive(Clone, Copy, PartialEq, Eq, Debug)]
 pub enum FillRefusal {

@@ -1,7 +1,8 @@
 // A response as it stands in an auction.
 ghost use Rattle.std.specs.Prelude.{◌≡◌, Some};
 ghost use Rattle.std.specs.Fmt.{padded};
-ghost use Rattle.allocation.specs.Classes.{class_number, class_name};
+ghost use Rattle.allocation.specs.Response.{class_number, class_name};
+ghost use Rattle.allocation.specs.Ranking.{key_of};
 ghost use Rattle.allocation.specs.Table.{restored};
 
 use std::fmt;
@@ -76,6 +77,17 @@ impl Response {
         ResponseId {
             member: self.member,
             own: self.own,
+        }
+    }
+
+    // What a ranking may look at.
+    pub fn key(&self) -> Key
+        ensures { result ≡ key_of self.now }
+    {
+        Key {
+            member: self.member,
+            size: self.size,
+            arrival: self.arrival,
         }
     }
 

@@ -1,10 +1,10 @@
 // Sharing contracts among the responses of one class at one price, which stand in ranking order.
 ghost use Rattle.std.specs.Prelude.{◌≡◌, ◌*◌, ◌/◌, ◌<◌, ◌≤◌, true, length, take, drop, Some};
 ghost use Rattle.std.proofs.Props.{props};
-ghost use Rattle.market.specs.Prices.{showable};
-ghost use Rattle.allocation.specs.FillList.{fill_row, shared_rows};
+ghost use Rattle.market.specs.Limits.{showable};
+ghost use Rattle.allocation.specs.Fill.{fill_row, shared_rows};
 ghost use Rattle.allocation.specs.LevelSteps.{Sized, Sound};
-ghost use Rattle.allocation.specs.Shares.{sizes, total, parts_total};
+ghost use Rattle.allocation.specs.Share.{sizes, total, parts_total};
 
 use crate::fill::FillRow;
 use crate::response::Response;

@@ -1,6 +1,6 @@
 // How the contracts that are left are split at one level among customers, contra and others.
 ghost use Rattle.std.specs.Prelude.{◌≡◌, ◌+◌, ◌-◌, ◌≤◌};
-ghost use Rattle.allocation.specs.Splits.{guaranteed, others_share, matched, clean_up, nothing_trades, stop_rest, match_between, match_rest, rest_by, split, taken};
+ghost use Rattle.allocation.specs.Split.{guaranteed, others_share, matched, clean_up, nothing_trades, stop_rest, match_between, match_rest, rest_by, split, taken};
 
 use crate::order::{ContraTerms, GuaranteeKind};
 use std::cmp::Ordering;

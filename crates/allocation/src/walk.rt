@@ -1,14 +1,14 @@
 // Walking the levels of arranged responses, from the lowest price up.
 ghost use Rattle.std.specs.Prelude.{◌≡◌, ◌+◌, ◌≤◌, true, ◌++◌, length, take, drop, Some};
-ghost use Rattle.market.specs.Prices.{showable};
-ghost use Rattle.allocation.specs.FillList.{level_rows};
+ghost use Rattle.market.specs.Limits.{showable};
+ghost use Rattle.allocation.specs.Fill.{level_rows};
 ghost use Rattle.allocation.specs.Levels.{contra_level};
 ghost use Rattle.allocation.specs.LevelSteps.{next_price};
 ghost use Rattle.allocation.specs.Walk.{walk_level, walk_split, walk_on, walked};
 
 use crate::fill::FillRow;
 use crate::levels::LevelPlan;
-use crate::order::{ContraTerms, GuaranteeKind};
+use crate::order::ContraTerms;
 use crate::share::Standing;
 use crate::split::Progress;
 use market::side::Side;
@@ -30,18 +30,6 @@ pub(crate) struct ShareOut<'a> {
     pub side: Side,
     pub terms: ContraTerms,
     pub arranged: Standing<'a>,
-}
-
-impl ContraTerms {
-    // The contra's own price.
-    fn own_price(&self) -> i64
-        ensures { result ≡ contra_level self.now.guarantee.kind self.now }
-    {
-        match self.guarantee.kind {
-            GuaranteeKind::SingleStop => self.guarantee.price,
-            GuaranteeKind::AutoMatchLimit => self.initiating,
-        }
-    }
 }
 
 impl ShareOut<'_> {

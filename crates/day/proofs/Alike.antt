@@ -2,25 +2,25 @@
 -- call; and what it is shown is the same by the law of what a member may learn.
 use Rattle.std.proofs.Common.{◌≡◌, ◌++◌, ◌∙◌, ap, sym, subst, refl, ℕ, Bool, true, false, cond, List, [], ◌∷◌, map, ◌==◌, is_some, Option, Some, None, vec_items}
 use Rattle.std.specs.Option.{option_map}
-use Rattle.day.specs.Alike.{SaidAlike, LinesAlike, ScriptAlikeToItself, MemberReadsTheSame}
+use Rattle.day.specs.Alike.{EntriesAlike, LinesAlike, ScriptAlikeToItself, MemberReadsTheSame}
 use Rattle.day.specs.Calls.{call_in, calls_in}
 use Rattle.day.specs.CarriedOut.{world_in, start_in}
 use Rattle.day.specs.ForMember.{transcript_line, answered_line, line_for, answers_behind, text_for}
-use Rattle.day.specs.Lines.{CubeCall, Line, Said, Replied, Call, Range}
+use Rattle.day.specs.Lines.{CubeCall, Line, Entry, Replied, Call, Range}
 use Rattle.market.specs.Cube.{CubePosition}
 use Rattle.market.specs.declared.better_of.Half.{Half}
-use Rattle.market.specs.declared.legs.leg.LegTick.{LegTick}
+use Rattle.market.specs.declared.leg.LegTick.{LegTick}
 use Rattle.market.specs.declared.quote.Quote.{Quote}
 use Rattle.room.specs.World.{World}
 use Rattle.script.specs.declared.chosen.ChosenInterval.{ChosenInterval}
-use Rattle.session.specs.declared.calls.Call.TheVariants as call
-use Rattle.script.specs.Texts.{answer_text}
+use Rattle.session.specs.declared.call.Call.TheVariants as call
+use Rattle.script.specs.Answer.{answer_text}
 use Rattle.script.specs.Told.{CubeFaultTold, AnswerTold, answer_told}
 use Rattle.session.specs.Learning.{AllAlike}
 use Rattle.session.specs.Runs.{Answer, Moment, Accepted}
 use Rattle.session.specs.Promises.{at_first}
 use Rattle.session.specs.SessionLearning.{seen_if_made}
-use Rattle.session.specs.Sessions.{Session, session_after, session_moment, session_moments}
+use Rattle.session.specs.SessionState.{SessionState, session_after, session_moment, session_moments}
 use Rattle.session.proofs.Learning.Alike.{one_to_itself}
 
 -- The first and the others of a list, and what no list with a first is.
@@ -62,7 +62,7 @@ module _ (w : World CubePosition (Half Quote LegTick) CubeFaultTold ChosenInterv
   unseen true u n m none = ap (seen_line n) (sym none)
   unseen false u n m none = refl
 
-  one_line : (u n : ℕ) (s : Session CubePosition ChosenInterval) (c : CubeCall) (a : AnswerTold)
+  one_line : (u n : ℕ) (s : SessionState CubePosition ChosenInterval) (c : CubeCall) (a : AnswerTold)
       → a ≡ answer_of (session_moment w s c)
       → answered_line u n c a ≡ seen_line n (seen_if_made u (session_moment w s c))
   one_line u n s (call.Respond x) a same = cond_line (x.member == u) n a _ same
@@ -73,30 +73,30 @@ module _ (w : World CubePosition (Half Quote LegTick) CubeFaultTold ChosenInterv
   one_line u n s _ a same = refl
 
   -- The text of these lines, of what is shown at each call.
-  abbrev seen_behind : Said → List AnswerTold → List AnswerTold
+  abbrev seen_behind : Entry → List AnswerTold → List AnswerTold
   seen_behind (Call c) (x ∷ xs) = xs
   seen_behind _ xs = xs
 
-  abbrev seen_at : ℕ → Said → List AnswerTold → List ℕ
+  abbrev seen_at : ℕ → Entry → List AnswerTold → List ℕ
   seen_at n (Call c) (x ∷ xs) = seen_line n x
   seen_at n _ xs = []
 
   abbrev seen_text : List Line → List AnswerTold → List ℕ
   seen_text [] xs = []
-  seen_text (l ∷ ls) xs = seen_at l.number l.said xs ++ seen_text ls (seen_behind l.said xs)
+  seen_text (l ∷ ls) xs = seen_at l.number l.entry xs ++ seen_text ls (seen_behind l.entry xs)
 
-  abbrev moments : Session CubePosition ChosenInterval → List Line → List (Option AMoment)
+  abbrev moments : SessionState CubePosition ChosenInterval → List Line → List (Option AMoment)
   moments s ls = session_moments w s (calls_in ls)
 
   -- What is to be shown of all lines, from any session on.
   abbrev AsSeen : ℕ → List Line → Type 0
   AsSeen u ls =
-      (s : Session CubePosition ChosenInterval) (answers : List AnswerTold)
+      (s : SessionState CubePosition ChosenInterval) (answers : List AnswerTold)
       → answers ≡ map answer_of (moments s ls)
       → text_for u ls answers ≡ seen_text ls (map (seen_if_made u) (moments s ls))
 
-  one_more : (u n : ℕ) (ls : List Line) (x : Said) → AsSeen u ls
-      → (s : Session CubePosition ChosenInterval) (answers : List AnswerTold)
+  one_more : (u n : ℕ) (ls : List Line) (x : Entry) → AsSeen u ls
+      → (s : SessionState CubePosition ChosenInterval) (answers : List AnswerTold)
       → answers ≡ map answer_of (session_moments w s (call_in x ++ calls_in ls))
       → line_for u n x answers ++ text_for u ls (answers_behind x answers)
       ≡ seen_at n x (map (seen_if_made u) (session_moments w s (call_in x ++ calls_in ls)))
@@ -109,10 +109,10 @@ module _ (w : World CubePosition (Half Quote LegTick) CubeFaultTold ChosenInterv
 
   all_lines : (u : ℕ) (ls : List Line) → AsSeen u ls
   all_lines u [] s answers same = refl
-  all_lines u (l ∷ ls) s answers same = one_more u l.number ls l.said (all_lines u ls) s answers same
+  all_lines u (l ∷ ls) s answers same = one_more u l.number ls l.entry (all_lines u ls) s answers same
 
   -- Alike lines have the same text of what is shown.
-  one_alike : (u n : ℕ) (x y : Said) (xs : List AnswerTold) → SaidAlike u x y
+  one_alike : (u n : ℕ) (x y : Entry) (xs : List AnswerTold) → EntriesAlike u x y
       → (seen_at n x xs ≡ seen_at n y xs) × (seen_behind x xs ≡ seen_behind y xs)
   one_alike u n (Call c) (Call d) [] alike = (refl, refl)
   one_alike u n (Call c) (Call d) (x ∷ xs) alike = (refl, refl)
@@ -126,13 +126,13 @@ module _ (w : World CubePosition (Half Quote LegTick) CubeFaultTold ChosenInterv
   same_text u [] (m ∷ ms) xs alike = absurd alike
   same_text u (l ∷ ls) [] xs alike = absurd alike
   same_text u (l ∷ ls) (m ∷ ms) xs alike =
-      let one = one_alike u l.number l.said m.said xs alike.1 in
-      ap (λ x. x ++ seen_text ls (seen_behind l.said xs)) (one.0 ∙ ap (λ n. seen_at n m.said xs) alike.0)
-      ∙ ap (λ ys. seen_at m.number m.said xs ++ seen_text ls ys) one.1
-      ∙ ap (λ x. seen_at m.number m.said xs ++ x) (same_text u ls ms (seen_behind m.said xs) alike.2)
+      let one = one_alike u l.number l.entry m.entry xs alike.1 in
+      ap (λ x. x ++ seen_text ls (seen_behind l.entry xs)) (one.0 ∙ ap (λ n. seen_at n m.entry xs) alike.0)
+      ∙ ap (λ ys. seen_at m.number m.entry xs ++ seen_text ls ys) one.1
+      ∙ ap (λ x. seen_at m.number m.entry xs ++ x) (same_text u ls ms (seen_behind m.entry xs) alike.2)
 
 -- The calls of alike lines are alike.
-calls_with : (u : ℕ) (x y : Said) (cs ds : List CubeCall) → SaidAlike u x y → AllAlike u cs ds
+calls_with : (u : ℕ) (x y : Entry) (cs ds : List CubeCall) → EntriesAlike u x y → AllAlike u cs ds
     → AllAlike u (call_in x ++ cs) (call_in y ++ ds)
 calls_with u (Call c) (Call d) cs ds alike rest = (alike, rest)
 calls_with u (Call c) _ cs ds alike rest = absurd alike
@@ -144,16 +144,16 @@ calls_alike u [] [] alike = tt
 calls_alike u [] (m ∷ ms) alike = absurd alike
 calls_alike u (l ∷ ls) [] alike = absurd alike
 calls_alike u (l ∷ ls) (m ∷ ms) alike =
-    calls_with u l.said m.said (calls_in ls) (calls_in ms) alike.1 (calls_alike u ls ms alike.2)
+    calls_with u l.entry m.entry (calls_in ls) (calls_in ms) alike.1 (calls_alike u ls ms alike.2)
 
 -- Every script is alike to itself, as its calls are.
-said_alike_to_itself : (u : ℕ) (x : Said) → SaidAlike u x x
-said_alike_to_itself u (Call c) = one_to_itself u c
-said_alike_to_itself u _ = tt
+entry_alike_to_itself : (u : ℕ) (x : Entry) → EntriesAlike u x x
+entry_alike_to_itself u (Call c) = one_to_itself u c
+entry_alike_to_itself u _ = tt
 
 pub script_alike_to_itself : ScriptAlikeToItself
 script_alike_to_itself u [] = tt
-script_alike_to_itself u (l ∷ ls) = (refl, said_alike_to_itself u l.said, script_alike_to_itself u ls)
+script_alike_to_itself u (l ∷ ls) = (refl, entry_alike_to_itself u l.entry, script_alike_to_itself u ls)
 
 pub reads_the_same : MemberReadsTheSame
 reads_the_same u terms ls ms text other one two alike opens ends =

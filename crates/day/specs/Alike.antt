@@ -3,26 +3,26 @@ use Rattle.std.specs.Prelude.{◌≡◌, ℕ, List, [], ◌∷◌, map}
 use Rattle.day.specs.Calls.{calls_in}
 use Rattle.day.specs.CarriedOut.{world_in, start_in}
 use Rattle.day.specs.ForMember.{TextFor}
-use Rattle.day.specs.Lines.{Line, Said, Call}
-use Rattle.script.specs.declared.setup.RoomTerms.{RoomTerms}
+use Rattle.day.specs.Lines.{Line, Entry, Call}
+use Rattle.script.specs.declared.setup.room_terms.RoomTerms.{RoomTerms}
 use Rattle.session.specs.Learning.{Alike}
 use Rattle.session.specs.Promises.{at_first}
 use Rattle.session.specs.SessionLearning.{opens_if_made, ends_if_made}
-use Rattle.session.specs.Sessions.{session_moments}
+use Rattle.session.specs.SessionState.{session_moments}
 
 -- What is no call is alike to whatever is no call.
-abbrev pub SaidAlike : ℕ → Said → Said → Type 0
-SaidAlike member (Call c) (Call d) = Alike member c d
-SaidAlike member (Call c) _ = ⊥
-SaidAlike member _ (Call d) = ⊥
-SaidAlike member _ _ = Unit {0}
+abbrev pub EntriesAlike : ℕ → Entry → Entry → Type 0
+EntriesAlike member (Call c) (Call d) = Alike member c d
+EntriesAlike member (Call c) _ = ⊥
+EntriesAlike member _ (Call d) = ⊥
+EntriesAlike member _ _ = Unit {0}
 
 -- Lines of equal numbers, place by place.
 abbrev pub LinesAlike : ℕ → List Line → List Line → Type 0
 LinesAlike member [] [] = Unit {0}
 LinesAlike member [] (m ∷ ms) = ⊥
 LinesAlike member (l ∷ ls) [] = ⊥
-LinesAlike member (l ∷ ls) (m ∷ ms) = (l.number ≡ m.number) × SaidAlike member l.said m.said × LinesAlike member ls ms
+LinesAlike member (l ∷ ls) (m ∷ ms) = (l.number ≡ m.number) × EntriesAlike member l.entry m.entry × LinesAlike member ls ms
 
 -- Every script is alike to itself to each member, whatever in it is outside its limits or not understood.
 abbrev pub ScriptAlikeToItself : Type 0

@@ -7,7 +7,7 @@ use Rattle.market.specs.declared.better_of.BetterOf.{BetterOf}
 use Rattle.market.specs.declared.better_of.Half.{Half}
 use Rattle.market.specs.declared.improve.Improve.{Improve}
 use Rattle.market.specs.declared.legs.Legs.{Legs}
-use Rattle.market.specs.declared.legs.leg.LegTick.{LegTick}
+use Rattle.market.specs.declared.leg.LegTick.{LegTick}
 use Rattle.market.specs.declared.quote.Quote.{Quote}
 use Rattle.market.specs.declared.touch.Touch.{Touch}
 use Rattle.market.specs.Legs.{legs_of}
@@ -17,14 +17,14 @@ use Rattle.room.specs.World.{World}
 use Rattle.script.specs.Chosen.{chosen_ahead, chosen_meaning}
 use Rattle.script.specs.declared.chosen.ChosenInterval.{ChosenInterval}
 use Rattle.script.specs.declared.chosen.ChosenRanking.{ChosenRanking}
-use Rattle.script.specs.declared.setup.RoomTerms.{RoomTerms}
+use Rattle.script.specs.declared.setup.room_terms.RoomTerms.{RoomTerms}
 use Rattle.script.specs.Told.{AnswerTold, CubeFaultTold}
 use Rattle.session.specs.Claims.{claims_to}
-use Rattle.session.specs.Closings.{with_close}
+use Rattle.session.specs.Closed.{with_close, ToldAtClose, told_at_close}
 use Rattle.session.specs.declared.desk.Desk.{Desk}
-use Rattle.session.specs.Desks.{ToldAtClose, at_desk, told_at_close}
+use Rattle.session.specs.Desk.{at_desk}
 use Rattle.session.specs.Promises.{Start, Carried, WholePromise}
-use Rattle.session.specs.Sessions.{session_answers, session_end}
+use Rattle.session.specs.SessionState.{session_answers, session_end}
 
 abbrev pub CubeWorld : Type 0
 CubeWorld = World CubePosition (Half Quote LegTick) CubeFaultTold ChosenInterval

@@ -4,11 +4,11 @@ use Rattle.std.specs.Option.{option_map}
 use Rattle.std.specs.Fmt.{decimal}
 use Rattle.std.specs.Str.Lines.{lines}
 use Rattle.day.specs.Calls.{call_in, calls_in}
-use Rattle.day.specs.Lines.{CubeCall, Line, Said, Call, lines_said, told_behind_lines, room_of}
+use Rattle.day.specs.Lines.{CubeCall, Line, Entry, Call, lines_from, settings_behind_lines, room_of}
 use Rattle.day.specs.CarriedOut.{CarriedOut, CubeDesk, answers_at}
-use Rattle.script.specs.declared.setup.RoomTerms.{RoomTerms}
-use Rattle.script.specs.Setups.{nothing_told, room_in, room_told}
-use Rattle.script.specs.Texts.{answer_text}
+use Rattle.script.specs.declared.setup.room_terms.RoomTerms.{RoomTerms}
+use Rattle.script.specs.Setup.{no_settings, room_in, room_values}
+use Rattle.script.specs.Answer.{answer_text}
 use Rattle.script.specs.Told.{CubeFaultTold, AnswerTold}
 use Rattle.session.specs.Learning.{shown_of}
 use Rattle.session.specs.Runs.{Accepted}
@@ -26,23 +26,23 @@ abbrev pub answered_line : ℕ → ℕ → CubeCall → AnswerTold → List ℕ
 answered_line member number c a = cond (is_for member c) (transcript_line number (answer_text a)) []
 
 -- A line, which is answered by the first of the answers if it is a call,
-abbrev pub line_for : ℕ → ℕ → Said → List AnswerTold → List ℕ
+abbrev pub line_for : ℕ → ℕ → Entry → List AnswerTold → List ℕ
 line_for member number (Call c) (a ∷ answers) = answered_line member number c a
 line_for member number _ answers = []
 
 -- and the answers behind it.
-abbrev pub answers_behind : Said → List AnswerTold → List AnswerTold
+abbrev pub answers_behind : Entry → List AnswerTold → List AnswerTold
 answers_behind (Call c) (a ∷ answers) = answers
 answers_behind _ answers = answers
 
 -- All lines, with the answers to their calls.
 abbrev pub text_for : ℕ → List Line → List AnswerTold → List ℕ
 text_for member [] answers = []
-text_for member (l ∷ ls) answers = line_for member l.number l.said answers ++ text_for member ls (answers_behind l.said answers)
+text_for member (l ∷ ls) answers = line_for member l.number l.entry answers ++ text_for member ls (answers_behind l.entry answers)
 
 -- What is written of a line, and of lines, whose calls are made at this desk.
 abbrev pub line_at : ℕ → CubeDesk → Line → List ℕ
-line_at member d l = line_for member l.number l.said (answers_at d (call_in l.said))
+line_at member d l = line_for member l.number l.entry (answers_at d (call_in l.entry))
 
 abbrev pub text_at : ℕ → CubeDesk → List Line → List ℕ
 text_at member d ls = text_for member ls (answers_at d (calls_in ls))
@@ -61,5 +61,5 @@ TextIn member (Some terms) lines text = TextFor member terms lines text
 -- The text for a member of a whole script: of its lines, in the room that is made of what it tells.
 pub record TranscriptFor (member : ℕ) (script text : List ℕ) : Type 0 where
   pub room : Option RoomTerms
-  pub made : option_map room_told room ≡ room_of (room_in (told_behind_lines nothing_told (lines script)))
-  pub written : TextIn member room (lines_said nothing_told 1 (lines script)) text
+  pub made : option_map room_values room ≡ room_of (room_in (settings_behind_lines no_settings (lines script)))
+  pub written : TextIn member room (lines_from no_settings 1 (lines script)) text

@@ -6,20 +6,20 @@ use Rattle.std.specs.Str.Lines.{lines}
 use Rattle.day.specs.Calls.{call_in, calls_in}
 use Rattle.day.specs.CarriedOut.{CarriedOut, CubeDesk, answers_at}
 use Rattle.day.specs.ForMember.{transcript_line, answers_behind}
-use Rattle.day.specs.Lines.{CubeCall, Line, Said, Replied, Call, Range, told_behind_lines, room_of, script_lines}
+use Rattle.day.specs.Lines.{CubeCall, Line, Entry, Replied, Call, Range, settings_behind_lines, room_of, script_lines}
 use Rattle.market.specs.Cube.{CubePosition, cube_meaning, cube_start}
 use Rattle.market.specs.declared.better_of.Half.{Half}
-use Rattle.market.specs.declared.legs.leg.LegTick.{LegTick}
+use Rattle.market.specs.declared.leg.LegTick.{LegTick}
 use Rattle.market.specs.declared.quote.Quote.{Quote}
 use Rattle.market.specs.Legs.{legs_of}
 use Rattle.market.specs.Range.{permitted}
-use Rattle.script.specs.declared.setup.RoomTerms.{RoomTerms}
+use Rattle.script.specs.declared.setup.room_terms.RoomTerms.{RoomTerms}
 use Rattle.script.specs.declared.statement.RangeQuestion.{RangeQuestion}
-use Rattle.script.specs.Replies.{range_reply, reply_text}
-use Rattle.script.specs.Setups.{nothing_told, room_in, room_told}
-use Rattle.script.specs.Texts.{answer_text, collected_text}
+use Rattle.script.specs.Reply.{range_reply, reply_text}
+use Rattle.script.specs.Setup.{no_settings, room_in, room_values}
+use Rattle.script.specs.Answer.{answer_text, collected_text}
 use Rattle.script.specs.Told.{AnswerTold}
-use Rattle.session.specs.Desks.{ToldAtClose}
+use Rattle.session.specs.Closed.{ToldAtClose}
 use Rattle.session.specs.History.{tick_in}
 use Rattle.session.specs.Runs.{Accepted}
 
@@ -32,7 +32,7 @@ abbrev pub market_after : CubePosition → CubeCall → AnswerTold → CubePosit
 market_after p c a = market_taking p (tick_in c) a
 
 -- The market behind a line, which is answered by the first of the answers if it is a call.
-abbrev pub market_behind : CubePosition → Said → List AnswerTold → CubePosition
+abbrev pub market_behind : CubePosition → Entry → List AnswerTold → CubePosition
 market_behind p (Call c) (a ∷ answers) = market_after p c a
 market_behind p _ answers = p
 
@@ -41,7 +41,7 @@ abbrev pub range_answered : CubePosition → RangeQuestion → List ℕ
 range_answered p q = reply_text (range_reply (permitted q.side q.limit (cube_meaning.shows p)))
 
 -- A line: what is answered at once, a question by the market as it is before the line, a call by the first of the answers.
-abbrev pub whole_line : CubePosition → ℕ → Said → List AnswerTold → List ℕ
+abbrev pub whole_line : CubePosition → ℕ → Entry → List AnswerTold → List ℕ
 whole_line p number (Replied r) answers = transcript_line number (reply_text r)
 whole_line p number (Range q) answers = transcript_line number (range_answered p q)
 whole_line p number (Call c) [] = []
@@ -51,17 +51,17 @@ whole_line p number (Call c) (a ∷ answers) = transcript_line number (answer_te
 abbrev pub whole_lines : CubePosition → List Line → List AnswerTold → List ℕ
 whole_lines p [] answers = []
 whole_lines p (l ∷ ls) answers =
-    whole_line p l.number l.said answers ++ whole_lines (market_behind p l.said answers) ls (answers_behind l.said answers)
+    whole_line p l.number l.entry answers ++ whole_lines (market_behind p l.entry answers) ls (answers_behind l.entry answers)
 
 -- What is written of a line, and of lines, whose calls are made at this desk; and the market behind the line.
 abbrev pub whole_line_at : CubePosition → CubeDesk → Line → List ℕ
-whole_line_at p d l = whole_line p l.number l.said (answers_at d (call_in l.said))
+whole_line_at p d l = whole_line p l.number l.entry (answers_at d (call_in l.entry))
 
 abbrev pub whole_lines_at : CubePosition → CubeDesk → List Line → List ℕ
 whole_lines_at p d ls = whole_lines p ls (answers_at d (calls_in ls))
 
 abbrev pub market_behind_at : CubePosition → CubeDesk → Line → CubePosition
-market_behind_at p d l = market_behind p l.said (answers_at d (call_in l.said))
+market_behind_at p d l = market_behind p l.entry (answers_at d (call_in l.entry))
 
 -- An auction that the room still held at the end of the script.
 abbrev pub end_line : ToldAtClose → List ℕ
@@ -77,29 +77,29 @@ pub record WholeTextOf (terms : RoomTerms) (ls : List Line) (text : List ℕ) : 
   pub written : text ≡ whole_lines (cube_start (legs_of terms.legs)) ls carried_out.answers ++ end_lines carried_out.at_end
 
 -- Where there is no room, the answers are those that are given at once.
-abbrev pub reply_line : ℕ → Said → List ℕ
+abbrev pub reply_line : ℕ → Entry → List ℕ
 reply_line number (Replied r) = transcript_line number (reply_text r)
 reply_line number _ = []
 
 abbrev pub reply_lines : List Line → List ℕ
-reply_lines ls = flat_map (λ l. reply_line l.number l.said) ls
+reply_lines ls = flat_map (λ l. reply_line l.number l.entry) ls
 
 abbrev pub WholeTextIn : Option RoomTerms → List Line → List ℕ → Type 0
 WholeTextIn None ls text = text ≡ reply_lines ls
 WholeTextIn (Some terms) ls text = WholeTextOf terms ls text
 
 -- And no line is left out there: it has no call and no question.
-abbrev pub is_at_once : Said → Bool
+abbrev pub is_at_once : Entry → Bool
 is_at_once (Replied r) = true
 is_at_once _ = false
 
 abbrev pub NoneLeftOut : Option RoomTerms → List Line → Type 0
-NoneLeftOut None ls = list_all (λ l. is_at_once l.said) ls ≡ true
+NoneLeftOut None ls = list_all (λ l. is_at_once l.entry) ls ≡ true
 NoneLeftOut (Some terms) ls = Unit {0}
 
 -- The text of a whole script: of its lines, in the room that is made of what it tells.
 pub record WholeTranscript (script text : List ℕ) : Type 0 where
   pub room : Option RoomTerms
-  pub made : option_map room_told room ≡ room_of (room_in (told_behind_lines nothing_told (lines script)))
+  pub made : option_map room_values room ≡ room_of (room_in (settings_behind_lines no_settings (lines script)))
   pub written : WholeTextIn room (script_lines script) text
   pub none_left_out : NoneLeftOut room (script_lines script)

@@ -7,7 +7,7 @@ ghost use Rattle.day.specs.CarriedOut.{room_at};
 
 use market::cube::{CubeMarket, cube_market};
 use script::chosen::{ChosenInterval, ChosenRanking};
-use script::setup::RoomTerms;
+use script::setup::room_terms::RoomTerms;
 use session::desk::Desk;
 use std::alloc::Global;
 

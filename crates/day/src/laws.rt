@@ -1,4 +1,4 @@
-// The law of what a member may read, as a contract, and that it is said of every script. This function does nothing.
+// The law of what a member may read, as a contract, and that every script is alike to itself. This function does nothing.
 ghost use Rattle.day.specs.Alike.{MemberReadsTheSame, ScriptAlikeToItself};
 
 // Of any two scripts.

@@ -3,12 +3,12 @@ ghost use Rattle.std.specs.Prelude.{◌≡◌, ◌++◌, OnOk, map, string_bytes
 ghost use Rattle.day.specs.Calls.{call_in, calls_in};
 ghost use Rattle.day.specs.CarriedOut.{DeskBehind};
 ghost use Rattle.day.specs.ForMember.{line_at, text_at};
-ghost use Rattle.day.specs.Lines.{line_told, said_told};
+ghost use Rattle.day.specs.Lines.{line_value, entry_value};
 
 use crate::desk::CubeDesk;
-use crate::lines::{Line, Said};
+use crate::lines::{Entry, Line};
 use script::shown::is_shown_to;
-use script::transcript::answers::AnswerText;
+use script::transcript::answer::AnswerText;
 use std::alloc::{AllocError, Global};
 
 // Makes the call of a line, if it says one, and writes the answer if the member may see it.
@@ -19,11 +19,11 @@ fn write_line(
     line: Line,
     member: u8,
 ) -> Result<(), AllocError>
-    ensures text { OnOk result (string_bytes text.new ≡ string_bytes text.old ++ line_at member desk.old (line_told line)) }
-    ensures desk { OnOk result (DeskBehind desk.old (call_in (said_told line.said)) desk.new) }
+    ensures text { OnOk result (string_bytes text.new ≡ string_bytes text.old ++ line_at member desk.old (line_value line)) }
+    ensures desk { OnOk result (DeskBehind desk.old (call_in (entry_value line.entry)) desk.new) }
 {
-    let Line { number, said } = line;
-    if let Said::Call(call) = said {
+    let Line { number, entry } = line;
+    if let Entry::Call(call) = entry {
         let is_shown = is_shown_to(&call, member);
         let answer = desk.call(heap, call)?;
         if is_shown {
@@ -42,8 +42,8 @@ pub(crate) fn write_lines(
     lines: Vec<Line>,
     member: u8,
 ) -> Result<(), AllocError>
-    ensures text { OnOk result (string_bytes text.new ≡ string_bytes text.old ++ text_at member desk.old (map line_told (vec_items lines))) }
-    ensures desk { OnOk result (DeskBehind desk.old (calls_in (map line_told (vec_items lines))) desk.new) }
+    ensures text { OnOk result (string_bytes text.new ≡ string_bytes text.old ++ text_at member desk.old (map line_value (vec_items lines))) }
+    ensures desk { OnOk result (DeskBehind desk.old (calls_in (map line_value (vec_items lines))) desk.new) }
 {
     for line in lines {
         write_line(heap, text, desk, line, member)?;

@@ -2,16 +2,16 @@
 ghost use Rattle.std.specs.Prelude.{◌≡◌, IfOk, map, string_bytes, vec_items};
 ghost use Rattle.day.specs.ForMember.{TextFor, TranscriptFor};
 ghost use Rattle.day.specs.WholeText.{WholeTranscript};
-ghost use Rattle.day.specs.Lines.{line_told, said_told, is_understood, is_all_understood, script_lines};
+ghost use Rattle.day.specs.Lines.{line_value, entry_value, is_understood, is_all_understood, script_lines};
 
 use crate::desk::desk_of;
-use crate::lines::{Line, Said, Script};
+use crate::lines::{Entry, Line, Script};
 use crate::member::write_lines;
 use crate::whole::{replies_text, whole_text};
 use market::cube::CubeMarket;
 use script::chosen::{ChosenInterval, ChosenRanking};
-use script::setup::RoomTerms;
-use script::transcript::Reply;
+use script::setup::room_terms::RoomTerms;
+use script::transcript::reply::Reply;
 use session::laws::model_keeps_the_promise;
 use std::alloc::{AllocError, Global};
 
@@ -23,13 +23,13 @@ pub struct Transcript {
 }
 
 fn is_understood(line: &Line) -> bool
-    ensures { result ≡ is_understood (said_told line.now.said) }
+    ensures { result ≡ is_understood (entry_value line.now.entry) }
 {
-    !matches!(&line.said, Said::Replied(Reply::NotUnderstood(_)))
+    !matches!(&line.entry, Entry::Replied(Reply::NotUnderstood(_)))
 }
 
 fn is_all_understood(lines: &[Line]) -> bool
-    ensures { result ≡ is_all_understood (map line_told lines.now) }
+    ensures { result ≡ is_all_understood (map line_value lines.now) }
 {
     lines.iter().all(is_understood)
 }
@@ -41,7 +41,7 @@ fn text_for(
     terms: RoomTerms,
     member: u8,
 ) -> Result<String, AllocError>
-    ensures { IfOk result (λ text. TextFor member terms (map line_told (vec_items lines)) (string_bytes text)) }
+    ensures { IfOk result (λ text. TextFor member terms (map line_value (vec_items lines)) (string_bytes text)) }
 {
     model_keeps_the_promise::<CubeMarket, ChosenInterval, ChosenRanking>(&terms.ranking);
     let mut desk = desk_of(heap, terms);

@@ -3,29 +3,30 @@ ghost use Rattle.std.specs.Prelude.{◌≡◌, ◌++◌, [], ◌∷◌, IfOk, On
 ghost use Rattle.std.specs.Option.{option_map};
 ghost use Rattle.market.specs.Cube.{cube_position, cube_meaning};
 ghost use Rattle.market.specs.Range.{permitted};
-ghost use Rattle.script.specs.Replies.{range_reply, reply_told};
+ghost use Rattle.script.specs.Reply.{range_reply, reply_told};
 ghost use Rattle.script.specs.Told.{answer_told};
-ghost use Rattle.session.specs.Desks.{closed_told, listed_told};
+ghost use Rattle.session.specs.Closed.{closed_told, listed_told};
 ghost use Rattle.session.specs.History.{tick_in};
-ghost use Rattle.session.specs.Sessions.{given};
+ghost use Rattle.session.specs.SessionState.{given};
 ghost use Rattle.day.specs.Calls.{call_in, calls_in};
 ghost use Rattle.day.specs.CarriedOut.{DeskBehind};
-ghost use Rattle.day.specs.Lines.{line_told, said_told};
+ghost use Rattle.day.specs.Lines.{line_value, entry_value};
 ghost use Rattle.day.specs.WholeText.{market_behind_at, market_taking, whole_line_at, whole_lines_at, end_lines, WholeTextOf, reply_line, reply_lines};
 
 use crate::desk::{CubeDesk, desk_of};
-use crate::lines::{Line, Said};
+use crate::lines::{Entry, Line};
+use market::Market;
 use market::cube::{CubeFault, CubeMarket, CubeTick, cube_market};
-use market::market::Market;
-use market::range::permitted::permitted_range;
+use market::range::PermittedRange;
 use script::chosen::{ChosenInterval, ChosenRanking};
-use script::setup::RoomTerms;
+use script::setup::room_terms::RoomTerms;
 use script::statement::{RangeQuestion, same_tick};
-use script::transcript::Reply;
-use script::transcript::answers::{AnswerText, CollectedText};
-use session::answers::Answer;
-use session::calls::Call;
-use session::desk::ClosedAuction;
+use script::transcript::answer::AnswerText;
+use script::transcript::collected::CollectedText;
+use script::transcript::reply::Reply;
+use session::answer::Answer;
+use session::call::Call;
+use session::closed::ClosedAuction;
 use session::laws::model_keeps_the_promise;
 use std::alloc::{AllocError, Global};
 
@@ -51,7 +52,7 @@ fn range_in(market: &CubeMarket, question: RangeQuestion) -> Reply
     ensures { reply_told result ≡ range_reply (permitted question.side question.limit (cube_meaning.shows (cube_position market.now))) }
 {
     let RangeQuestion { side, limit } = question;
-    Reply::to_range(permitted_range(market, side, limit))
+    Reply::to_range(PermittedRange::of(market, side, limit))
 }
 
 // Makes the call of a line, if it says one, and writes what the line is answered.
@@ -62,18 +63,18 @@ fn write_line(
     market: &mut CubeMarket,
     line: Line,
 ) -> Result<(), AllocError>
-    ensures text { OnOk result (string_bytes text.new ≡ string_bytes text.old ++ whole_line_at (cube_position market.old) desk.old (line_told line)) }
-    ensures market { OnOk result (cube_position market.new ≡ market_behind_at (cube_position market.old) desk.old (line_told line)) }
-    ensures desk { OnOk result (DeskBehind desk.old (call_in (said_told line.said)) desk.new) }
+    ensures text { OnOk result (string_bytes text.new ≡ string_bytes text.old ++ whole_line_at (cube_position market.old) desk.old (line_value line)) }
+    ensures market { OnOk result (cube_position market.new ≡ market_behind_at (cube_position market.old) desk.old (line_value line)) }
+    ensures desk { OnOk result (DeskBehind desk.old (call_in (entry_value line.entry)) desk.new) }
 {
-    let Line { number, said } = line;
-    match said {
-        Said::Replied(reply) => writeln!(text, "{number}: {reply}")?,
-        Said::Range(question) => {
+    let Line { number, entry } = line;
+    match entry {
+        Entry::Replied(reply) => writeln!(text, "{number}: {reply}")?,
+        Entry::Range(question) => {
             let reply = range_in(market, question);
             writeln!(text, "{number}: {reply}")?;
         }
-        Said::Call(call) => {
+        Entry::Call(call) => {
             let tick = tick_in(&call);
             let answer = desk.call(heap, call)?;
             take_tick(market, tick, &answer);
@@ -92,8 +93,8 @@ fn write_lines(
     market: CubeMarket,
     lines: Vec<Line>,
 ) -> Result<(), AllocError>
-    ensures text { OnOk result (string_bytes text.new ≡ string_bytes text.old ++ whole_lines_at (cube_position market) desk.old (map line_told (vec_items lines))) }
-    ensures desk { OnOk result (DeskBehind desk.old (calls_in (map line_told (vec_items lines))) desk.new) }
+    ensures text { OnOk result (string_bytes text.new ≡ string_bytes text.old ++ whole_lines_at (cube_position market) desk.old (map line_value (vec_items lines))) }
+    ensures desk { OnOk result (DeskBehind desk.old (calls_in (map line_value (vec_items lines))) desk.new) }
 {
     let mut market = market;
     for line in lines {
@@ -131,7 +132,7 @@ pub(crate) fn whole_text(
     lines: Vec<Line>,
     terms: RoomTerms,
 ) -> Result<String, AllocError>
-    ensures { IfOk result (λ text. WholeTextOf terms (map line_told (vec_items lines)) (string_bytes text)) }
+    ensures { IfOk result (λ text. WholeTextOf terms (map line_value (vec_items lines)) (string_bytes text)) }
 {
     model_keeps_the_promise::<CubeMarket, ChosenInterval, ChosenRanking>(&terms.ranking);
     let mut desk = desk_of(heap, terms);
@@ -145,9 +146,9 @@ pub(crate) fn whole_text(
 
 // Writes a line that is answered at once.
 fn write_reply(text: &mut String, line: &Line) -> Result<(), AllocError>
-    ensures { OnOk result (string_bytes text.new ≡ string_bytes text.old ++ reply_line line.now.number (said_told line.now.said)) }
+    ensures { OnOk result (string_bytes text.new ≡ string_bytes text.old ++ reply_line line.now.number (entry_value line.now.entry)) }
 {
-    if let Said::Replied(reply) = &line.said {
+    if let Entry::Replied(reply) = &line.entry {
         let number = line.number;
         writeln!(text, "{number}: {reply}")?;
     }
@@ -156,7 +157,7 @@ fn write_reply(text: &mut String, line: &Line) -> Result<(), AllocError>
 
 // The text of lines for which there is no room.
 pub(crate) fn replies_text(heap: Global, lines: &[Line]) -> Result<String, AllocError>
-    ensures { IfOk result (λ text. string_bytes text ≡ reply_lines (map line_told lines.now)) }
+    ensures { IfOk result (λ text. string_bytes text ≡ reply_lines (map line_value lines.now)) }
 {
     let mut text = String::new(heap);
     for line in lines {

@@ -7,12 +7,10 @@ use crate::text::Price;
 use allocation::auction::Auction;
 use allocation::fill::{FillRow, LEAST_ROWS};
 use allocation::order::{Guarantee, GuaranteeKind, PairedOrder};
-use allocation::ranking::Ranking;
-use allocation::rankings::{EarlierArrival, LargerSize};
+use allocation::ranking::{EarlierArrival, LargerSize, Ranking};
 use allocation::response::Class::{Customer, Other};
-use market::market::Market;
+use market::Market;
 use market::range::PermittedRange;
-use market::range::permitted::permitted_range;
 use market::side::Side;
 use std::io;
 
@@ -108,7 +106,7 @@ impl<R: Called> Task<'_, R> {
 
     fn work<M: Market>(&self, rt: &HostRuntime, market: &M) -> io::Result<()> {
         self.show_order(rt)?;
-        match permitted_range(market, self.side, self.limit) {
+        match PermittedRange::of(market, self.side, self.limit) {
             Ok(range) => {
                 show_range(rt, range)?;
                 self.hold(rt, range)

@@ -10,8 +10,8 @@ mod steps;
 mod table;
 mod text;
 
+use market::leg::LegTerms;
 use market::legs::Legs;
-use market::legs::leg::LegTerms;
 use market::side::Side;
 use std::io;
 

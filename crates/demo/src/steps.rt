@@ -1,15 +1,14 @@
 // The narration, step by step. What it prints of markets and ranges is what the library answers.
 use crate::fills::auctions;
 use crate::text::{Price, Shown};
+use market::Market;
 use market::better_of::Half;
 use market::cube::{CubeMarket, CubeTick, cube_market};
 use market::fault::{Cause, Fault};
+use market::leg::{LegQuote, LegTerms, LegTick};
 use market::legs::Legs;
-use market::legs::leg::{LegQuote, LegTerms, LegTick};
-use market::market::Market;
 use market::quote::Quote;
 use market::range::PermittedRange;
-use market::range::permitted::permitted_range;
 use market::refusal::RangeRefusal;
 use market::side::Side;
 use std::io;
@@ -136,7 +135,7 @@ impl Narration<'_> {
 
     fn ask(&self, side: Side, limit: i64) -> io::Result<()> {
         println!(self.rt; "  an order to {side}, limit {}", Price(limit))?;
-        match permitted_range(&self.market, side, limit) {
+        match PermittedRange::of(&self.market, side, limit) {
             Ok(range) => show_range(self.rt, range),
             Err(refusal) => show_refusal(self.rt, refusal),
         }

@@ -2,8 +2,7 @@
 use allocation::auction::Auction;
 use allocation::fill::{FillRow, LEAST_ROWS};
 use allocation::order::{Guarantee, GuaranteeKind, PairedOrder};
-use allocation::ranking::Ranking;
-use allocation::rankings::{EarlierArrival, LargerSize};
+use allocation::ranking::{EarlierArrival, LargerSize, Ranking};
 use allocation::response::Class::{self, Customer, Other};
 use allocation::response::{Kind, NewTerms, Response, ResponseId};
 use market::side::Side::{self, Buy, Sell};

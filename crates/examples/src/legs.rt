@@ -1,9 +1,9 @@
 // Making a strategy, and how far its prices go.
 use crate::answer::{print_answer, verdict};
+use market::Market;
 use market::improve::Improve;
+use market::leg::{LegQuote, LegTerms, LegTick};
 use market::legs::Legs;
-use market::legs::leg::{LegQuote, LegTerms, LegTick};
-use market::market::Market;
 use market::quote::Quote;
 use market::refusal::SetupRefusal;
 use market::side::Side;

@@ -1,10 +1,10 @@
 // Quotes that are refused: the cause and the place, in their order.
 use crate::answer::{Shown, print_answer};
 use crate::legs::one_against_two;
+use market::Market;
 use market::fault::{Cause, Fault};
+use market::leg::{LegQuote, LegTick};
 use market::legs::Legs;
-use market::legs::leg::{LegQuote, LegTick};
-use market::market::Market;
 use market::quote::Quote;
 use market::touch::Touch;
 use std::io;

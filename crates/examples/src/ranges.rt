@@ -1,13 +1,12 @@
 // Ranges and their refusals, on markets that are told their quotes here.
 use crate::answer::{Answer, Shown, print_answer};
 use crate::legs::one_against_two;
+use market::Market;
 use market::better_of::Half;
 use market::cube::{CubeMarket, cube_market};
-use market::legs::leg::{LegQuote, LegTick};
-use market::market::Market;
+use market::leg::{LegQuote, LegTick};
 use market::quote::Quote;
 use market::range::PermittedRange;
-use market::range::permitted::permitted_range;
 use market::refusal::RangeRefusal;
 use market::side::Side::{self, Buy, Sell};
 use std::io;
@@ -72,7 +71,7 @@ fn work_orders(rt: &HostRuntime, market: &CubeMarket, orders: &[Order]) -> io::R
     for order in orders {
         let Order { side, limit, want } = *order;
         print!(rt; "  {side} limit {limit}: ")?;
-        let got = permitted_range(market, side, limit).map(Prices::from);
+        let got = PermittedRange::of(market, side, limit).map(Prices::from);
         print_answer(rt, &got, &want)?;
     }
     Ok(())

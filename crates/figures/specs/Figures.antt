@@ -3,11 +3,11 @@
 use Rattle.std.specs.Prelude.{◌≡◌, ℕ, List, [], ◌∷◌, ◌++◌, length, pos, Some, None, Ok}
 use Rattle.std.specs.Str.{byte}
 use Rattle.market.specs.declared.better_of.Half.TheVariants.{Left, Right}
-use Rattle.market.specs.declared.legs.leg.LegTick.{LegTick}
+use Rattle.market.specs.declared.leg.LegTick.{LegTick}
 use Rattle.market.specs.declared.quote.Quote.{Quote}
 use Rattle.market.specs.declared.side.Side.TheVariants.{Buy}
 use Rattle.market.specs.Cube.{CubeTicks, cube_start, cube_meaning}
-use Rattle.market.specs.History.{after}
+use Rattle.market.specs.CubeHistory.{after}
 use Rattle.market.specs.Improve.{improved_quote}
 use Rattle.market.specs.Legs.{legs_meaning, smallest_ratio}
 use Rattle.market.specs.Range.{permitted}

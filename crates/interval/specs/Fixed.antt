@@ -3,7 +3,7 @@ use Rattle.std.specs.Prelude.{ℕ, cond, ◌&&◌, Ok, Err, Result, nat_le}
 use Rattle.std.specs.Result.{result_map_both}
 use Rattle.interval.specs.declared.fixed.FixedInterval.{FixedInterval}
 use Rattle.interval.specs.declared.refusal.IntervalRefusal.{IntervalRefusal}
-use Rattle.interval.specs.Refusals.{interval_refusal_number}
+use Rattle.interval.specs.Refusal.{interval_refusal_number}
 use Rattle.interval.specs.Source.{SourceMeaning}
 
 -- What is made of a length in milliseconds: an interval of that length, or refusal 8 for one outside 100 to 1,000.

@@ -1,5 +1,5 @@
 -- The rules of interval sources, a file a topic.
-pub mod Refusals
+pub mod Refusal
 pub mod Source
 pub mod Fixed
 pub mod Stepping

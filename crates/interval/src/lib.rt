@@ -1,4 +1,4 @@
-// Interval sources: how many milliseconds each draw answers.
+//! Interval sources: how many milliseconds each draw answers.
 #![tactic(auto)]
 
 pub mod fixed;

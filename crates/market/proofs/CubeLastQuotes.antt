@@ -2,23 +2,24 @@
 use Rattle.std.proofs.Common.{◌≡◌, ℕ, suc, ◌-◌, ◌≤◌, min, Bool, true, false, cond, ◌&&◌, eqb, List, [], ◌∷◌, length, is_ok, Some, sym, refl, ap, ◌∙◌, arith}
 use Rattle.std.proofs.lemmas.Bool.Decides.{nat_tests}
 use Rattle.market.specs.declared.better_of.Half.TheVariants.{Left, Right}
-use Rattle.market.specs.declared.legs.leg.Leg.{Leg}
-use Rattle.market.specs.declared.legs.leg.LegQuote.{LegQuote}
-use Rattle.market.specs.declared.legs.leg.LegTick.{LegTick}
+use Rattle.market.specs.declared.leg.Leg.{Leg}
+use Rattle.market.specs.declared.leg.LegQuote.{LegQuote}
+use Rattle.market.specs.declared.leg.LegTick.{LegTick}
 use Rattle.market.specs.declared.quote.Quote.{Quote}
 use Rattle.market.specs.BetterOf.{better_quote}
 use Rattle.market.specs.Cube.{CubeTicks, cube_start, cube_meaning, cube_quote}
-use Rattle.market.specs.History.{after, last_or, book_quotes, leg_quotes, last_book, with_last_quote, legs_from, last_legs}
+use Rattle.market.specs.CubeHistory.{after, last_or, book_quotes, leg_quotes, last_book, with_last_quote, legs_from, last_legs}
 use Rattle.market.specs.Improve.{improved_quote}
-use Rattle.market.specs.Legs.{tick_answer, legs_answer, legs_next, quote_leg, quoted, smallest_ratio, legs_quote}
-use Rattle.market.specs.Meaning.{nothing_shown}
+use Rattle.market.specs.Leg.{tick_answer, with_quote}
+use Rattle.market.specs.Legs.{legs_answer, legs_next, quote_leg, smallest_ratio, legs_quote}
+use Rattle.market.specs.Market.{nothing_shown}
 use Rattle.market.specs.Touch.{touch_answer, touch_next}
 
 -- a quote keeps the number of legs
 length_quoted : (n : ℕ) (q : LegQuote) (ls : List Leg) → length (quote_leg n q ls) ≡ length ls
 length_quoted n q [] = refl
 length_quoted n q (l ∷ ls) =
-    elim (eqb n 1) as (λ b. length (cond b (quoted q l ∷ ls) (l ∷ quote_leg (n - 1) q ls)) ≡ suc (length ls)) [
+    elim (eqb n 1) as (λ b. length (cond b (with_quote q l ∷ ls) (l ∷ quote_leg (n - 1) q ls)) ≡ suc (length ls)) [
       | true ↦ refl
       | false ↦ ap suc (length_quoted (n - 1) q ls)
     ]

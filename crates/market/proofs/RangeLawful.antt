@@ -9,10 +9,10 @@ use Rattle.std.specs.Result.{result_err}
 use Rattle.market.specs.declared.quote.Quote.{Quote}
 use Rattle.market.specs.declared.side.Side.{Side}
 use Rattle.market.specs.declared.side.Side.TheVariants.{Buy, Sell}
-use Rattle.market.specs.Prices.{in_limits}
+use Rattle.market.specs.Limits.{in_limits}
 use Rattle.market.specs.Range.{RangePrices, turned_quote, range_from, range_faced, permitted}
 use Rattle.market.specs.RangeLaws.{Gives, PlainPrices, mirrored, as_sell, RangeLaws}
-use Rattle.market.specs.Turned.{turned}
+use Rattle.market.specs.Side.{turned}
 use Rattle.market.specs.LegsBounded.{turned_within}
 
 below : (side : Side) (limit floor contra : ℤ) → (limit <ℤ floor) ⊎ (contra <ℤ floor) → result_err (range_from side limit floor contra) ≡ Some 15

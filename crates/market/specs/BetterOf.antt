@@ -5,7 +5,7 @@ use Rattle.std.specs.Int.{int_max, int_min}
 use Rattle.market.specs.declared.better_of.Half.{Half}
 use Rattle.market.specs.declared.better_of.Half.TheVariants.{Left, Right}
 use Rattle.market.specs.declared.quote.Quote.{Quote}
-use Rattle.market.specs.Meaning.{Meaning, told_by}
+use Rattle.market.specs.Market.{Meaning, told_by}
 
 -- The higher of two bids; no price does not count.
 abbrev pub higher : Option ℤ → Option ℤ → Option ℤ

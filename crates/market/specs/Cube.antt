@@ -5,15 +5,15 @@ use Rattle.market.specs.declared.better_of.BetterOf.{BetterOf}
 use Rattle.market.specs.declared.better_of.Half.{Half}
 use Rattle.market.specs.declared.improve.Improve.{Improve}
 use Rattle.market.specs.declared.legs.Legs.{Legs}
-use Rattle.market.specs.declared.legs.leg.Leg.{Leg}
-use Rattle.market.specs.declared.legs.leg.LegTick.{LegTick}
+use Rattle.market.specs.declared.leg.Leg.{Leg}
+use Rattle.market.specs.declared.leg.LegTick.{LegTick}
 use Rattle.market.specs.declared.quote.Quote.{Quote}
 use Rattle.market.specs.declared.touch.Touch.{Touch}
 use Rattle.market.specs.BetterOf.{better_quote, better_of_meaning}
-use Rattle.market.specs.Faults.{FaultTold}
+use Rattle.market.specs.Fault.{FaultTold}
 use Rattle.market.specs.Improve.{improved_quote, improve_meaning}
 use Rattle.market.specs.Legs.{legs_of, legs_quote, legs_meaning, smallest_ratio}
-use Rattle.market.specs.Meaning.{Meaning, nothing_shown}
+use Rattle.market.specs.Market.{Meaning, nothing_shown}
 use Rattle.market.specs.Touch.{touch_quote, touch_meaning}
 
 -- Ticks, each for the book or for a leg.

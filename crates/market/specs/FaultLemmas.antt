@@ -6,8 +6,8 @@ use Rattle.market.specs.declared.fault.Cause.{Cause}
 use Rattle.market.specs.declared.fault.Cause.TheVariants.{NoSuchLeg, BeyondLimit, BidNotBelowOffer}
 use Rattle.market.specs.declared.fault.Fault.{Fault}
 use Rattle.market.specs.BetterOf.{half_told}
-use Rattle.market.specs.Faults.{FaultTold, cause_number, fault_told}
-use Rattle.market.specs.Meaning.{Apart}
+use Rattle.market.specs.Fault.{FaultTold, cause_number, fault_told}
+use Rattle.market.specs.Market.{Apart}
 
 causes_apart : Apart cause_number
 causes_apart NoSuchLeg NoSuchLeg e = refl

@@ -1,27 +1,22 @@
--- Improve, over any market, by a step of 1 to 9 cents: the bid a step higher, the offer a step lower, held at
--- ±50,000,000; no price stays no price; ticks and faults pass through.
-use Rattle.std.specs.Prelude.{ℕ, cond, ℤ, pos, ◌+ℤ◌, ◌-ℤ◌, neg_ℤ, Ok, Err, Option, Result}
-use Rattle.std.specs.Int.{int_max, int_min}
+-- Improve, over any market, by a step of 1 to 9 cents: the bid a step higher, the offer a step lower, as far as a market
+-- shows prices; no price stays no price; ticks and faults pass through.
+use Rattle.std.specs.Prelude.{ℕ, cond, ℤ, pos, ◌+ℤ◌, ◌-ℤ◌, Ok, Err, Option, Result}
 use Rattle.std.specs.Option.{option_map}
 use Rattle.std.specs.Result.{result_map_both}
 use Rattle.market.specs.declared.improve.Improve.{Improve}
 use Rattle.market.specs.declared.quote.Quote.{Quote}
 use Rattle.market.specs.declared.refusal.SetupRefusal.{SetupRefusal}
-use Rattle.market.specs.Meaning.{Meaning}
-use Rattle.market.specs.OneToNine.{one_to_nine}
-use Rattle.market.specs.Refusals.{setup_number}
-
--- Held at 50,000,000 cents either way.
-abbrev pub held : ℤ → ℤ
-held z = int_max (neg_ℤ (pos 50000000)) (int_min z (pos 50000000))
+use Rattle.market.specs.Limits.{nearest_showable, one_to_nine}
+use Rattle.market.specs.Market.{Meaning}
+use Rattle.market.specs.Refusal.{setup_number}
 
 -- The bid a step higher.
 abbrev pub raised_bid : ℕ → Option ℤ → Option ℤ
-raised_bid step = option_map (λ z. held (z +ℤ pos step))
+raised_bid step = option_map (λ z. nearest_showable (z +ℤ pos step))
 
 -- The offer a step lower.
 abbrev pub lowered_offer : ℕ → Option ℤ → Option ℤ
-lowered_offer step = option_map (λ z. held (z -ℤ pos step))
+lowered_offer step = option_map (λ z. nearest_showable (z -ℤ pos step))
 
 -- Both.
 abbrev pub improved_quote : ℕ → Quote → Quote

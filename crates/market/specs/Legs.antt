@@ -1,24 +1,20 @@
 -- Legs: two to four, each bought or sold, made of two, the others added singly. Prices show once every leg is quoted.
-use Rattle.std.specs.Prelude.{ℕ, ◌-◌, min, cond, ◌&&◌, List, [], ◌∷◌, ◌++◌, length, ℤ, pos, ◌+ℤ◌, ◌*ℤ◌, is_ok, Some, None, Ok, Err, Option, Result, ◌==◌, int_lt, nat_le}
-use Rattle.std.specs.Option.{option_map}
+use Rattle.std.specs.Prelude.{ℕ, ◌-◌, min, cond, ◌&&◌, List, [], ◌∷◌, ◌++◌, length, ℤ, pos, is_ok, Some, None, Ok, Err, Option, Result, ◌==◌, nat_le}
 use Rattle.std.specs.Result.{result_map_both}
+use Rattle.market.specs.declared.leg.Leg.{Leg}
+use Rattle.market.specs.declared.leg.LegQuote.{LegQuote}
+use Rattle.market.specs.declared.leg.LegTerms.{LegTerms}
+use Rattle.market.specs.declared.leg.LegTick.{LegTick}
+use Rattle.market.specs.declared.leg.QuoteSide.{QuoteSide}
+use Rattle.market.specs.declared.leg.QuoteSide.TheVariants.{Bid, Offer}
 use Rattle.market.specs.declared.legs.Legs.{Legs}
-use Rattle.market.specs.declared.legs.leg.Leg.{Leg}
-use Rattle.market.specs.declared.legs.leg.LegQuote.{LegQuote}
-use Rattle.market.specs.declared.legs.leg.LegTerms.{LegTerms}
-use Rattle.market.specs.declared.legs.leg.LegTick.{LegTick}
-use Rattle.market.specs.declared.legs.leg.QuoteSide.{QuoteSide}
-use Rattle.market.specs.declared.legs.leg.QuoteSide.TheVariants.{Bid, Offer}
 use Rattle.market.specs.declared.quote.Quote.{Quote}
 use Rattle.market.specs.declared.refusal.SetupRefusal.{SetupRefusal}
-use Rattle.market.specs.declared.side.Side.{Side}
-use Rattle.market.specs.declared.side.Side.TheVariants.{Buy, Sell}
-use Rattle.market.specs.Faults.{FaultTold, fault}
-use Rattle.market.specs.LegInvariant.{leg_price_ok}
-use Rattle.market.specs.Meaning.{Meaning}
-use Rattle.market.specs.OneToNine.{one_to_nine}
-use Rattle.market.specs.Refusals.{setup_number}
-use Rattle.market.specs.Turned.{turned}
+use Rattle.market.specs.Fault.{FaultTold}
+use Rattle.market.specs.Leg.{new_leg, leg_part, plus, with_quote, tick_answer}
+use Rattle.market.specs.Limits.{one_to_nine}
+use Rattle.market.specs.Market.{Meaning}
+use Rattle.market.specs.Refusal.{setup_number}
 
 -- A leg in front of others, if there is one.
 abbrev pub with_leg : Option Leg → List Leg → List Leg
@@ -29,13 +25,9 @@ with_leg (Some l) ls = l ∷ ls
 abbrev pub legs_of : Legs → List Leg
 legs_of s = s.first ∷ (s.second ∷ with_leg s.third (with_leg s.fourth []))
 
--- A new leg has no quote.
-abbrev pub unquoted : LegTerms → Leg
-unquoted t = record { side = t.side; ratio = t.ratio; quote = None }
-
 -- Made of two legs: refusal 9 for a ratio outside 1 to 9.
 abbrev pub legs_made : LegTerms → LegTerms → Result (List Leg) ℕ
-legs_made x y = cond (one_to_nine x.ratio && one_to_nine y.ratio) (Ok (unquoted x ∷ (unquoted y ∷ []))) (Err 9)
+legs_made x y = cond (one_to_nine x.ratio && one_to_nine y.ratio) (Ok (new_leg x ∷ (new_leg y ∷ []))) (Err 9)
 
 -- The legs that were made, or the refusal's number.
 abbrev pub made_legs : Result Legs SetupRefusal → Result (List Leg) ℕ
@@ -47,29 +39,12 @@ legs_add ls x = cond (one_to_nine x.ratio) (cond (nat_le 4 (length ls)) (Err 10)
 
 -- An accepted leg stands behind those that are there; a refused one is not there.
 abbrev pub legs_added : List Leg → LegTerms → List Leg
-legs_added ls x = cond (is_ok (legs_add ls x)) (ls ++ unquoted x ∷ []) ls
+legs_added ls x = cond (is_ok (legs_add ls x)) (ls ++ new_leg x ∷ []) ls
 
 -- The smallest ratio of the legs; ratios are at most 9.
 abbrev pub smallest_ratio : List Leg → ℕ
 smallest_ratio [] = 9
 smallest_ratio (l ∷ ls) = min l.ratio (smallest_ratio ls)
-
--- The shown bid takes the bid of a bought leg and the offer of a sold one; the shown offer has the two exchanged.
-abbrev pub leg_price : QuoteSide → Side → LegQuote → ℤ
-leg_price Bid Buy q = q.bid
-leg_price Bid Sell q = q.offer
-leg_price Offer Buy q = q.offer
-leg_price Offer Sell q = q.bid
-
--- A quoted leg adds ratio × price if it is bought, and takes it away if it is sold.
-abbrev pub leg_part : QuoteSide → Leg → Option ℤ
-leg_part w l = option_map (λ q. turned l.side (pos l.ratio *ℤ leg_price w l.side q)) l.quote
-
--- A sum has a price where both its parts have one.
-abbrev pub plus : Option ℤ → Option ℤ → Option ℤ
-plus None y = None
-plus (Some x) None = None
-plus (Some x) (Some y) = Some (x +ℤ y)
 
 -- The sum over the legs; no price until every leg is quoted.
 abbrev pub legs_sum : QuoteSide → List Leg → Option ℤ
@@ -80,30 +55,14 @@ legs_sum w (l ∷ ls) = plus (leg_part w l) (legs_sum w ls)
 abbrev pub legs_quote : List Leg → Quote
 legs_quote ls = record { bid = legs_sum Bid ls; offer = legs_sum Offer ls }
 
--- A tick is for a leg that there is, its prices are 0 to 1,000,000, the bid looked at first, and the bid is below the
--- offer. The fault's place is the leg number.
-abbrev pub tick_answer : ℕ → LegTick → Result (Unit {0}) FaultTold
-tick_answer count t =
-    cond (nat_le 1 t.leg && nat_le t.leg count)
-    (cond (leg_price_ok t.quote.bid)
-    (cond (leg_price_ok t.quote.offer)
-    (cond (int_lt t.quote.bid t.quote.offer) (Ok tt) (fault 3 t.leg))
-    (fault 2 t.leg))
-    (fault 2 t.leg))
-    (fault 1 t.leg)
-
 -- The answer of these legs to a tick.
 abbrev pub legs_answer : List Leg → LegTick → Result (Unit {0}) FaultTold
 legs_answer ls t = tick_answer (length ls) t
 
--- A leg with a new quote.
-abbrev pub quoted : LegQuote → Leg → Leg
-quoted q l = record { side = l.side; ratio = l.ratio; quote = Some q }
-
 -- The leg of number n takes the quote; the others stay.
 abbrev pub quote_leg : ℕ → LegQuote → List Leg → List Leg
 quote_leg n q [] = []
-quote_leg n q (l ∷ ls) = cond (n == 1) (quoted q l ∷ ls) (l ∷ quote_leg (n - 1) q ls)
+quote_leg n q (l ∷ ls) = cond (n == 1) (with_quote q l ∷ ls) (l ∷ quote_leg (n - 1) q ls)
 
 -- An accepted tick quotes its leg; a refused one leaves all.
 abbrev pub legs_next : List Leg → LegTick → List Leg

@@ -7,17 +7,16 @@ use Rattle.std.specs.Int.{w64}
 use Rattle.std.proofs.lemmas.Int.{to_z-of_z, ints}
 use Rattle.std.proofs.lemmas.Bool.Decides.{nat_tests}
 use Rattle.market.specs.declared.legs.Legs.{Legs}
-use Rattle.market.specs.declared.legs.leg.Leg.{Leg}
-use Rattle.market.specs.declared.legs.leg.LegQuote.{LegQuote}
-use Rattle.market.specs.declared.legs.leg.QuoteSide.{QuoteSide}
-use Rattle.market.specs.declared.legs.leg.QuoteSide.TheVariants.{Bid, Offer}
+use Rattle.market.specs.declared.leg.Leg.{Leg}
+use Rattle.market.specs.declared.leg.LegQuote.{LegQuote}
+use Rattle.market.specs.declared.leg.QuoteSide.{QuoteSide}
+use Rattle.market.specs.declared.leg.QuoteSide.TheVariants.{Bid, Offer}
 use Rattle.market.specs.declared.side.Side.{Side}
 use Rattle.market.specs.declared.side.Side.TheVariants.{Buy, Sell}
-use Rattle.market.specs.LegInvariant.{leg_price_ok, leg_quote_ok, leg_ok, optional_leg_ok}
-use Rattle.market.specs.LegSteps.{sum_with}
-use Rattle.market.specs.Legs.{leg_price, leg_part, plus, legs_sum, legs_of, with_leg}
-use Rattle.market.specs.Turned.{turned}
-use Rattle.market.specs.Prices.{within}
+use Rattle.market.specs.Leg.{leg_price_ok, leg_quote_ok, leg_ok, optional_leg_ok, leg_price, leg_part, plus, sum_with}
+use Rattle.market.specs.Legs.{legs_sum, legs_of, with_leg}
+use Rattle.market.specs.Limits.{within}
+use Rattle.market.specs.Side.{turned}
 
 -- a ratio times a leg's price
 pub product_within : (n : ℕ) (z : ℤ) → n ≤ 9 → leg_price_ok z ≡ true → within 9000000 (Some (pos n *ℤ z)) ≡ true

@@ -1,22 +1,19 @@
--- The rules of markets and of the range that they permit an order, a file a topic. LegSteps are words for the code's inner
--- steps; LegsBounded, BetterOfMarketLemmas and FaultLemmas have lemmas.
-pub mod Prices
-pub mod Turned
-pub mod OneToNine
-pub mod Faults
-pub mod Refusals
-pub mod Meaning
+-- The rules of markets and of the range that they permit an order, a file a topic. LegsBounded, BetterOfMarketLemmas and
+-- FaultLemmas have lemmas.
+pub mod Limits
+pub mod Side
+pub mod Fault
+pub mod Refusal
+pub mod Market
 pub mod Touch
 pub mod Improve
 pub mod BetterOf
-pub mod LegInvariant
+pub mod Leg
 pub mod Legs
-pub mod LegSteps
 pub mod Cube
-pub mod History
+pub mod CubeHistory
 pub mod Range
 pub mod RangeLaws
 pub mod BetterOfMarketLemmas
 pub mod FaultLemmas
 pub mod LegsBounded
-pub mod Names

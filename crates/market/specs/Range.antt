@@ -9,9 +9,9 @@ use Rattle.market.specs.declared.range.TurnedQuote.{TurnedQuote}
 use Rattle.market.specs.declared.refusal.RangeRefusal.{RangeRefusal}
 use Rattle.market.specs.declared.side.Side.{Side}
 use Rattle.market.specs.declared.side.Side.TheVariants.{Buy, Sell}
-use Rattle.market.specs.Prices.{in_limits}
-use Rattle.market.specs.Refusals.{range_number}
-use Rattle.market.specs.Turned.{turned}
+use Rattle.market.specs.Limits.{in_limits}
+use Rattle.market.specs.Refusal.{range_number}
+use Rattle.market.specs.Side.{turned}
 
 -- The floor is the shown bid and the contra price the shown offer; for a sell order, the turned offer and the turned
 -- bid. A side with no price has none turned either.

@@ -6,9 +6,9 @@ use Rattle.std.specs.Result.{result_err}
 use Rattle.market.specs.declared.quote.Quote.{Quote}
 use Rattle.market.specs.declared.side.Side.{Side}
 use Rattle.market.specs.declared.side.Side.TheVariants.{Buy, Sell}
-use Rattle.market.specs.Prices.{in_limits}
+use Rattle.market.specs.Limits.{in_limits}
 use Rattle.market.specs.Range.{RangePrices, turned_quote, permitted, lowest_price, highest_price}
-use Rattle.market.specs.Turned.{turned}
+use Rattle.market.specs.Side.{turned}
 
 -- The initiating price is the limit or the contra price, and above neither; the floor is not above it.
 pub record InRange (limit : ℤ) (r : RangePrices) : Type 0 where

@@ -1,14 +1,20 @@
 -- Touch: a tick gives a bid and an offer, each a price or none; before the first there is none.
-use Rattle.std.specs.Prelude.{cond, is_ok, Ok, Result}
+use Rattle.std.specs.Prelude.{Bool, true, cond, ℤ, is_ok, Some, None, Ok, Option, Result, int_lt}
 use Rattle.market.specs.declared.quote.Quote.{Quote}
 use Rattle.market.specs.declared.touch.Touch.{Touch}
-use Rattle.market.specs.Faults.{FaultTold, fault}
-use Rattle.market.specs.Meaning.{Meaning}
-use Rattle.market.specs.Prices.{in_limits, uncrossed}
+use Rattle.market.specs.Fault.{FaultTold, fault}
+use Rattle.market.specs.Limits.{in_limits}
+use Rattle.market.specs.Market.{Meaning}
 
 -- A touch is at the quote that it took last.
 abbrev pub touch_quote : Touch → Quote
 touch_quote t = t.quote
+
+-- Where both are given, the bid is below the offer.
+abbrev pub uncrossed : Option ℤ → Option ℤ → Bool
+uncrossed None o = true
+uncrossed (Some b) None = true
+uncrossed (Some b) (Some o) = int_lt b o
 
 -- Prices are −40,000,000 to 40,000,000, the bid is looked at first (place 0), then the offer (place 1); then, where
 -- both are given, the bid is below the offer (place 0).

@@ -1,7 +1,13 @@
-// A bid and an offer, in signed whole cents. Either side may be without a price. It has no invariant: a tick is a quote too,
-// and may hold any numbers. That what a market shows stays within bounds is a law of `Market`.
+//! What is bid and offered.
+
+/// A bid and an offer, in signed whole cents; negative where the buyer receives. Either side may be without a price.
+///
+/// It has no invariant: a tick is a quote too, and may hold any numbers. That what a market shows stays within bounds
+/// is a law of `Market`.
 #[derive(Clone, Copy, PartialEq, Eq, Default, Debug)]
 pub struct Quote {
+    /// The best price to buy at, if any.
     pub bid: Option<i64>,
+    /// The best price to sell at, if any.
     pub offer: Option<i64>,
 }

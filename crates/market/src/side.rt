@@ -1,13 +1,13 @@
-// The side of an order or of a leg.
+//! The side of an order or of a leg.
 ghost use Rattle.std.specs.Prelude.{◌≡◌, true, Some};
 ghost use Rattle.std.specs.Fmt.{padded};
 ghost use Rattle.std.specs.Int.{saturate_to_bits};
-ghost use Rattle.market.specs.Prices.{showable};
-ghost use Rattle.market.specs.Turned.{turned};
-ghost use Rattle.market.specs.Names.{side_name};
+ghost use Rattle.market.specs.Limits.{showable};
+ghost use Rattle.market.specs.Side.{turned, side_name};
 
 use std::fmt;
 
+/// Which way an order trades the strategy, or which way a strategy has a leg.
 #[derive(Clone, Copy, PartialEq, Eq, Debug)]
 pub enum Side {
     Buy,
@@ -15,7 +15,7 @@ pub enum Side {
 }
 
 impl Side {
-    // The price itself for a buy, the price with its sign changed for a sell; the least `i64` becomes the greatest.
+    /// The price itself for a buy, the price with its sign changed for a sell; the least `i64` becomes the greatest.
     pub fn turn(self, price: i64) -> i64
         ensures value { result ≡ saturate_to_bits 63 (turned self price) }
         ensures exact { showable (Some price) ≡ true → result ≡ turned self price }

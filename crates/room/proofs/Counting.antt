@@ -4,7 +4,7 @@ use Rattle.std.proofs.Common.{◌≡◌, ℕ, zero, suc, ◌+◌, ◌*◌, ◌<�
 use Rattle.std.proofs.lemmas.Bool.Decides.{nat_tests}
 use Rattle.allocation.specs.declared.response.Response.{Response}
 use Rattle.allocation.specs.AuctionInvariant.{arrival_free}
-use Rattle.allocation.specs.Shares.{total}
+use Rattle.allocation.specs.Share.{total}
 use Rattle.room.specs.Counts.{all_within, all_arrived}
 use Rattle.room.proofs.Tests.{both_true, left_true, right_true}
 

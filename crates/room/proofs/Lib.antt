@@ -1,9 +1,9 @@
--- What a room's calls keep and do: small facts on tests (Tests), what follows of a request that passes its checks (Checked),
+-- What a room's calls keep and do: small facts on tests (Tests), what follows of a request that passes its checks (InsideLimits),
 -- and that an auction's values stay in order (Sound).
 pub mod Tests
-pub mod Checked
+pub mod InsideLimits
 pub mod Sound
 pub mod Counting
-mod Storing
-mod Opening
+mod CarriedOut
+mod NewAuctions
 mod Listed

@@ -10,8 +10,8 @@ use Rattle.market.specs.declared.quote.Quote.{Quote}
 use Rattle.market.specs.declared.range.TurnedQuote.{TurnedQuote}
 use Rattle.market.specs.declared.side.Side.{Side}
 use Rattle.market.specs.Range.{RangePrices, permitted, range_from, range_faced, turned_quote}
-use Rattle.market.specs.Prices.{in_limits}
-use Rattle.market.specs.Turned.{turned}
+use Rattle.market.specs.Limits.{in_limits}
+use Rattle.market.specs.Side.{turned}
 use Rattle.allocation.specs.declared.order.GuaranteeKind.{GuaranteeKind}
 use Rattle.allocation.specs.declared.order.GuaranteeKind.TheVariants.{SingleStop, AutoMatchLimit}
 use Rattle.allocation.specs.declared.order.PairedOrder.{PairedOrder}

@@ -1,7 +1,7 @@
 -- The checks of what is handed in, in their order; the first that fails is told, and then nothing changes, not even the
 -- clock.
 use Rattle.std.specs.Prelude.{ℕ, Bool, not, ℤ, Some, None, Option, nat_lt}
-use Rattle.market.specs.Prices.{in_limits}
+use Rattle.market.specs.Limits.{in_limits}
 use Rattle.allocation.specs.AuctionInvariant.{from_to}
 use Rattle.room.specs.declared.requests.OpeningRequest.{OpeningRequest}
 use Rattle.room.specs.declared.requests.ResponseRequest.{ResponseRequest}

@@ -2,10 +2,10 @@
 use Rattle.std.specs.Prelude.{ℕ, max, Bool, false, cond, Some, None, Err, Option, Result, nat_le}
 use Rattle.std.specs.Str.{byte}
 use Rattle.room.specs.Refusals.{RefusalTold, by_number}
-use Rattle.room.specs.State.{OpenAuction, RoomState, at_time, ended}
+use Rattle.room.specs.State.{OpenValues, RoomState, at_time, ended}
 
 -- The open auction's deadline is reached at this time.
-abbrev pub due : ℕ → Option OpenAuction → Bool
+abbrev pub due : ℕ → Option OpenValues → Bool
 due t None = false
 due t (Some a) = nat_le a.deadline t
 

@@ -4,7 +4,7 @@ pub mod World
 pub mod Refusals
 pub mod State
 pub mod Checks
-pub mod HandedIn
+pub mod Checked
 pub mod Clock
 pub mod Openings
 pub mod Responses

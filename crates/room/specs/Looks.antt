@@ -1,13 +1,13 @@
 -- Looking: what everybody may know. It carries no time and changes nothing.
 use Rattle.std.specs.Prelude.{length}
 use Rattle.std.specs.Option.{option_map}
-use Rattle.market.specs.Turned.{turned}
+use Rattle.market.specs.Side.{turned}
 use Rattle.room.specs.declared.answers.AuctionView.{AuctionView}
 use Rattle.room.specs.declared.answers.View.{View}
-use Rattle.room.specs.State.{OpenAuction, RoomState}
+use Rattle.room.specs.State.{OpenValues, RoomState}
 
 -- The open auction's number, side, size and initiating price, not turned.
-abbrev pub auction_view : OpenAuction → AuctionView
+abbrev pub auction_view : OpenValues → AuctionView
 auction_view a =
     record { number = a.number; side = a.values.order.side; size = a.values.order.size; initiating = turned a.values.order.side a.values.initiating }
 

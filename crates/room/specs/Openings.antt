@@ -3,7 +3,7 @@ use Rattle.std.specs.Prelude.{ℕ, ◌+◌, Bool, true, false, List, [], ◌∷�
 use Rattle.std.specs.Int.{int_max}
 use Rattle.std.specs.Str.{byte}
 use Rattle.market.specs.Range.{RangePrices, permitted}
-use Rattle.market.specs.Turned.{turned}
+use Rattle.market.specs.Side.{turned}
 use Rattle.allocation.specs.declared.order.Guarantee.{Guarantee}
 use Rattle.allocation.specs.declared.order.PairedOrder.{PairedOrder}
 use Rattle.allocation.specs.Auction.{AuctionValues}
@@ -12,7 +12,7 @@ use Rattle.room.specs.declared.requests.OpeningRequest.{OpeningRequest}
 use Rattle.room.specs.Checks.{open_checks}
 use Rattle.room.specs.Clock.{timed}
 use Rattle.room.specs.Refusals.{RefusalTold, refuse, unless, and_then, outcome}
-use Rattle.room.specs.State.{OpenAuction, EndedAuction, RoomState, closed}
+use Rattle.room.specs.State.{OpenValues, EndedValues, RoomState, closed}
 use Rattle.room.specs.World.{World}
 
 -- An order with its limit and its guarantee turned.
@@ -30,12 +30,12 @@ stored_order floor o =
     record { side = (turned_order o).side; size = (turned_order o).size; limit = (turned_order o).limit; guarantee = at_least floor (turned_order o).guarantee }
 
 -- Some auction waits to be collected.
-abbrev pub any_waits : List EndedAuction → Bool
+abbrev pub any_waits : List EndedValues → Bool
 any_waits [] = false
 any_waits (e ∷ es) = true
 
 -- 12 the room is halted, 13 an auction waits.
-abbrev pub room_refusal : Bool → List EndedAuction → Option ℕ
+abbrev pub room_refusal : Bool → List EndedValues → Option ℕ
 room_refusal halted waiting = refuse halted 12 (refuse (any_waits waiting) 13 None)
 
 -- 16 the guarantee is above the initiating price, 17 a million auctions were opened.
@@ -60,7 +60,7 @@ module _ {P T F Q : Type 0} (w : World P T F Q) where
       (λ r. unless (guarantee_refusal o s.opened r) (Ok r)))
 
   -- One interval is drawn, and the deadline is the room's time plus it. Auctions are counted from 1.
-  abbrev pub new_auction : RoomState P Q → PairedOrder → RangePrices → OpenAuction
+  abbrev pub new_auction : RoomState P Q → PairedOrder → RangePrices → OpenValues
   new_auction s o r = record { number = s.opened + 1; deadline = s.time + w.source.draws s.source; values = new_values o r; arrivals = 0; used = none_used }
 
   -- If an auction was open, it ends first, cause A.

@@ -1,7 +1,7 @@
 -- Taking a room apart.
 use Rattle.std.specs.Prelude.{◌≡◌, Bool, not, ◌&&◌, is_some}
 use Rattle.room.specs.declared.parts.RoomParts.{RoomParts}
-use Rattle.room.specs.declared.room.Room.{Room}
+use Rattle.room.specs.declared.Room.{Room}
 use Rattle.room.specs.Openings.{any_waits}
 use Rattle.room.specs.State.{RoomState}
 

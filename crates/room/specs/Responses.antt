@@ -4,7 +4,7 @@ use Rattle.std.specs.Int.{int_max}
 use Rattle.std.specs.Str.{byte}
 use Rattle.market.specs.declared.side.Side.{Side}
 use Rattle.market.specs.declared.side.Side.TheVariants.{Buy, Sell}
-use Rattle.market.specs.Turned.{turned}
+use Rattle.market.specs.Side.{turned}
 use Rattle.allocation.specs.declared.response.Kind.{Kind}
 use Rattle.allocation.specs.declared.response.Kind.TheVariants.{Sealed, Plain}
 use Rattle.allocation.specs.declared.response.Response.{Response}
@@ -17,7 +17,7 @@ use Rattle.room.specs.declared.requests.WithdrawRequest.{WithdrawRequest}
 use Rattle.room.specs.Checks.{respond_checks, change_checks, withdraw_checks}
 use Rattle.room.specs.Clock.{timed}
 use Rattle.room.specs.Refusals.{RefusalTold, refuse, unless, and_then, outcome}
-use Rattle.room.specs.State.{OpenAuction, RoomState, used_by, one_more, with_current, ended}
+use Rattle.room.specs.State.{OpenValues, RoomState, used_by, one_more, with_current, ended}
 
 -- Both buy, or both sell.
 abbrev pub same_side : Side → Side → Bool
@@ -31,57 +31,57 @@ is_plain Sealed = false
 is_plain Plain = true
 
 -- A price that is handed in, turned as the order's side asks.
-abbrev pub turned_in : OpenAuction → ℤ → ℤ
+abbrev pub turned_in : OpenValues → ℤ → ℤ
 turned_in a price = turned a.values.order.side price
 
 -- It is stored at the higher of its price and the floor,
-abbrev pub stored_price : OpenAuction → ℤ → ℤ
+abbrev pub stored_price : OpenValues → ℤ → ℤ
 stored_price a price = int_max a.values.floor (turned_in a price)
 
 -- and its size is capped at the order's.
-abbrev pub stored_size : OpenAuction → ℕ → ℕ
+abbrev pub stored_size : OpenValues → ℕ → ℕ
 stored_size a size = min size a.values.order.size
 
 -- A response as stored; arrivals count up from 1 in each auction, over responses and changes together.
-abbrev pub as_stored : OpenAuction → ResponseRequest → Response
+abbrev pub as_stored : OpenValues → ResponseRequest → Response
 as_stored a x =
     record { member = x.member; own = x.own; kind = x.kind; class = x.class; size = stored_size a x.size; price = stored_price a x.price; arrival = a.arrivals + 1 }
 
 -- The answer tells the stored price, not turned, and the stored size.
-abbrev pub terms_told : OpenAuction → ℤ → ℕ → StoredTerms
+abbrev pub terms_told : OpenValues → ℤ → ℕ → StoredTerms
 terms_told a price size = record { price = turned_in a price; size = size }
 
 -- An accepted response or change of a member leaves these responses standing, and counts.
-abbrev pub with_counted : OpenAuction → ℕ → List Response → OpenAuction
+abbrev pub with_counted : OpenValues → ℕ → List Response → OpenValues
 with_counted a member xs = record { number = a.number; deadline = a.deadline; values = with_stood a.values xs; arrivals = a.arrivals + 1; used = one_more member a.used }
 
 -- A withdrawal leaves these responses standing.
-abbrev pub with_remaining : OpenAuction → List Response → OpenAuction
+abbrev pub with_remaining : OpenValues → List Response → OpenValues
 with_remaining a xs = record { number = a.number; deadline = a.deadline; values = with_stood a.values xs; arrivals = a.arrivals; used = a.used }
 
 -- A plain response priced below the floor.
-abbrev pub plain_below_floor : OpenAuction → ResponseRequest → Bool
+abbrev pub plain_below_floor : OpenValues → ResponseRequest → Bool
 plain_below_floor a x = cond (is_plain x.kind) (int_lt (turned_in a x.price) a.values.floor) false
 
 -- 21: no auction is open.
-abbrev pub open_now : Option OpenAuction → Result OpenAuction ℕ
+abbrev pub open_now : Option OpenValues → Result OpenValues ℕ
 open_now None = Err 21
 open_now (Some a) = Ok a
 
 -- 22: the response is on the order's side.
-abbrev pub side_checked : OpenAuction → Side → Option ℕ → Option ℕ
+abbrev pub side_checked : OpenValues → Side → Option ℕ → Option ℕ
 side_checked a side = refuse (same_side side a.values.order.side) 22
 
 -- 23: the price exceeds the initiating price.
-abbrev pub above_checked : OpenAuction → ℤ → Option ℕ → Option ℕ
+abbrev pub above_checked : OpenValues → ℤ → Option ℕ → Option ℕ
 above_checked a price = refuse (int_lt a.values.initiating (turned_in a price)) 23
 
 -- 24: the member has a response of this own number standing.
-abbrev pub in_use_checked : OpenAuction → ℕ → ℕ → Option ℕ → Option ℕ
+abbrev pub in_use_checked : OpenValues → ℕ → ℕ → Option ℕ → Option ℕ
 in_use_checked a member own = refuse (is_some (own_response member own a.values.stood)) 24
 
 -- 27: a member has 10,000 accepted responses and changes in an auction.
-abbrev pub used_checked : OpenAuction → ℕ → Option ℕ → Option ℕ
+abbrev pub used_checked : OpenValues → ℕ → Option ℕ → Option ℕ
 used_checked a member = refuse (nat_le 10000 (used_by member a.used)) 27
 
 -- 25: the member has no response of this own number standing.
@@ -94,46 +94,46 @@ abbrev pub plain_checked : Response → Option ℕ → Option ℕ
 plain_checked x = refuse (is_plain x.kind) 26
 
 -- What the open auction refuses a response for: 22, 23, 24, 27.
-abbrev pub response_refusal : OpenAuction → ResponseRequest → Option ℕ
+abbrev pub response_refusal : OpenValues → ResponseRequest → Option ℕ
 response_refusal a x = side_checked a x.side (above_checked a x.price (in_use_checked a x.member x.own (used_checked a x.member None)))
 
 -- What it refuses a change of this standing response for: 26, 23, 27.
-abbrev pub change_refusal : OpenAuction → Response → ChangeRequest → Option ℕ
+abbrev pub change_refusal : OpenValues → Response → ChangeRequest → Option ℕ
 change_refusal a y x = plain_checked y (above_checked a x.price (used_checked a x.member None))
 
 -- The open auction, if it takes the response: 21, then 22 to 27.
-abbrev pub responding_to : Option OpenAuction → ResponseRequest → Result OpenAuction ℕ
+abbrev pub responding_to : Option OpenValues → ResponseRequest → Result OpenValues ℕ
 responding_to current x = and_then (open_now current) (λ a. unless (response_refusal a x) (Ok a))
 
 -- The open auction, if the response may be changed: 21, 25, 26, 23, 27.
-abbrev pub changing_in : Option OpenAuction → ChangeRequest → Result OpenAuction ℕ
+abbrev pub changing_in : Option OpenValues → ChangeRequest → Result OpenValues ℕ
 changing_in current x =
     and_then (open_now current)
     (λ a. and_then (standing_now (own_response x.member x.own a.values.stood))
     (λ y. unless (change_refusal a y x) (Ok a)))
 
 -- The open auction and the response, if it may be withdrawn: 21, 25, 26.
-abbrev pub withdrawing_from : Option OpenAuction → WithdrawRequest → Result (OpenAuction × Response) ℕ
+abbrev pub withdrawing_from : Option OpenValues → WithdrawRequest → Result (OpenValues × Response) ℕ
 withdrawing_from current x =
     and_then (open_now current)
     (λ a. and_then (standing_now (own_response x.member x.own a.values.stood))
     (λ y. unless (plain_checked y None) (Ok (a, y))))
 
 -- The auction with the response behind the others.
-abbrev pub with_response : OpenAuction → ResponseRequest → OpenAuction
+abbrev pub with_response : OpenValues → ResponseRequest → OpenValues
 with_response a x = with_counted a x.member (a.values.stood ++ as_stored a x ∷ [])
 
 -- The auction with that one response changed.
-abbrev pub with_change : OpenAuction → ChangeRequest → OpenAuction
+abbrev pub with_change : OpenValues → ChangeRequest → OpenValues
 with_change a x =
     with_counted a x.member (own_changed x.member x.own (stored_size a x.size) (stored_price a x.price) (a.arrivals + 1) a.values.stood)
 
 -- The auction without that one response.
-abbrev pub with_withdrawal : OpenAuction → WithdrawRequest → OpenAuction
+abbrev pub with_withdrawal : OpenValues → WithdrawRequest → OpenValues
 with_withdrawal a x = with_remaining a (without_own x.member x.own a.values.stood)
 
 -- The response is stored; a plain one priced below the floor then ends the auction, cause E.
-abbrev pub responded : {P Q : Type 0} → RoomState P Q → OpenAuction → ResponseRequest → RoomState P Q
+abbrev pub responded : {P Q : Type 0} → RoomState P Q → OpenValues → ResponseRequest → RoomState P Q
 responded s a x = let t = with_current (with_response a x) s in cond (plain_below_floor a x) (ended (byte "E") t) t
 
 module _ {P F Q : Type 0} where

@@ -3,35 +3,35 @@ use Rattle.std.specs.Prelude.{ℕ, Bool, List, [], ◌∷◌, Some, None, Ok, Er
 use Rattle.std.specs.Option.{option_map}
 use Rattle.std.specs.Result.{result_map_both}
 use Rattle.market.specs.declared.range.PermittedRange.{PermittedRange}
-use Rattle.market.specs.Meaning.{Meaning}
+use Rattle.market.specs.Market.{Meaning}
 use Rattle.market.specs.Range.{RangePrices, range_prices}
 use Rattle.interval.specs.Source.{SourceMeaning}
 use Rattle.allocation.specs.declared.response.Key.{Key}
 use Rattle.allocation.specs.Auction.{auction_values}
-use Rattle.allocation.specs.Causes.{cause_letter}
+use Rattle.allocation.specs.Cause.{cause_letter}
 use Rattle.room.specs.declared.answers.ClaimNumbers.{ClaimNumbers}
 use Rattle.room.specs.declared.answers.Collection.{Collection}
-use Rattle.room.specs.declared.auction.CurrentAuction.{CurrentAuction}
-use Rattle.room.specs.declared.auction.WaitingAuction.{WaitingAuction}
+use Rattle.room.specs.declared.open_auction.OpenAuction.{OpenAuction}
+use Rattle.room.specs.declared.ended.EndedAuction.{EndedAuction}
 use Rattle.room.specs.declared.claim.Claim.{Claim}
 use Rattle.room.specs.declared.refusal.Refusal.{Refusal}
-use Rattle.room.specs.declared.room.Room.{Room}
+use Rattle.room.specs.declared.Room.{Room}
 use Rattle.room.specs.Collecting.{CollectionTold}
 use Rattle.room.specs.Refusals.{RefusalTold, refusal_number, refusal_told}
-use Rattle.room.specs.State.{OpenAuction, EndedAuction, RoomState}
+use Rattle.room.specs.State.{OpenValues, EndedValues, RoomState}
 use Rattle.room.specs.World.{World}
 
 abbrev pub claim_numbers : Claim → ClaimNumbers
 claim_numbers c = c.numbers
 
-abbrev pub open_values : CurrentAuction → OpenAuction
+abbrev pub open_values : OpenAuction → OpenValues
 open_values a = record { number = a.number; deadline = a.deadline; values = auction_values a.auction; arrivals = a.arrivals; used = a.used }
 
-abbrev pub ended_values : WaitingAuction → EndedAuction
+abbrev pub ended_values : EndedAuction → EndedValues
 ended_values e = record { number = e.number; values = auction_values e.auction; cause = cause_letter e.cause }
 
 -- The auctions that wait, the oldest first.
-abbrev pub listed : Option WaitingAuction → Option WaitingAuction → List EndedAuction
+abbrev pub listed : Option EndedAuction → Option EndedAuction → List EndedValues
 listed None None = []
 listed None (Some b) = ended_values b ∷ []
 listed (Some a) None = ended_values a ∷ []
@@ -46,7 +46,7 @@ abbrev pub range_result : {F : Type 0} → Result PermittedRange (Refusal F) →
 range_result = result_map_both range_prices refusal_number
 
 -- The values of an auction that waits, or the refusal's number.
-abbrev pub waiting_result : {F : Type 0} → Result WaitingAuction (Refusal F) → Result EndedAuction ℕ
+abbrev pub waiting_result : {F : Type 0} → Result EndedAuction (Refusal F) → Result EndedValues ℕ
 waiting_result = result_map_both ended_values refusal_number
 
 -- A refused collecting hands the claim back.

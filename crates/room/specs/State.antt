@@ -5,7 +5,7 @@ use Rattle.allocation.specs.Auction.{AuctionValues}
 -- The auction that is open: its number, its deadline, its values (the order as stored, floor, initiating price and the
 -- responses that stand; prices are turned), the last arrival number that was given, and of each member, 1 to 16, how
 -- many responses and changes were accepted.
-pub record OpenAuction : Type 0 where
+pub record OpenValues : Type 0 where
   pub number : ℕ
   pub deadline : ℕ
   pub values : AuctionValues
@@ -13,7 +13,7 @@ pub record OpenAuction : Type 0 where
   pub used : List ℕ
 
 -- An auction that has ended: its values as they were when it ended, and the letter of the cause for which it ended.
-pub record EndedAuction : Type 0 where
+pub record EndedValues : Type 0 where
   pub number : ℕ
   pub values : AuctionValues
   pub cause : ℕ
@@ -26,8 +26,8 @@ pub record RoomState (P Q : Type 0) : Type 0 where
   pub halted : Bool
   pub position : P
   pub source : Q
-  pub current : Option OpenAuction
-  pub waiting : List EndedAuction
+  pub current : Option OpenValues
+  pub waiting : List EndedValues
   pub opened : ℕ
 
 -- A new room has time 0, is not halted and holds no auction.
@@ -35,22 +35,22 @@ abbrev pub new_room : {P Q : Type 0} → ℕ → P → Q → RoomState P Q
 new_room n p q = record { number = n; time = 0; halted = false; position = p; source = q; current = None; waiting = []; opened = 0 }
 
 -- The open auction has this number.
-abbrev pub is_number : ℕ → Option OpenAuction → Bool
+abbrev pub is_number : ℕ → Option OpenValues → Bool
 is_number n None = false
 is_number n (Some a) = a.number == n
 
 -- The waiting auction of this number, if there is one.
-abbrev pub numbered : ℕ → List EndedAuction → Option EndedAuction
+abbrev pub numbered : ℕ → List EndedValues → Option EndedValues
 numbered n [] = None
 numbered n (e ∷ es) = cond (e.number == n) (Some e) (numbered n es)
 
 -- The waiting auctions without the one of this number.
-abbrev pub without_number : ℕ → List EndedAuction → List EndedAuction
+abbrev pub without_number : ℕ → List EndedValues → List EndedValues
 without_number n [] = []
 without_number n (e ∷ es) = cond (e.number == n) es (e ∷ without_number n es)
 
 -- The open auction, if there is one, waits behind the others, as it was, with the letter of the cause for which it ended.
-abbrev pub closed : ℕ → Option OpenAuction → List EndedAuction → List EndedAuction
+abbrev pub closed : ℕ → Option OpenValues → List EndedValues → List EndedValues
 closed c None es = es
 closed c (Some a) es = es ++ (record { number = a.number; values = a.values; cause = c }) ∷ []
 
@@ -72,10 +72,10 @@ module _ {P Q : Type 0} where
   abbrev pub with_halted : Bool → RoomState P Q → RoomState P Q
   with_halted b s = record { number = s.number; time = s.time; halted = b; position = s.position; source = s.source; current = s.current; waiting = s.waiting; opened = s.opened }
 
-  abbrev pub with_current : OpenAuction → RoomState P Q → RoomState P Q
+  abbrev pub with_current : OpenValues → RoomState P Q → RoomState P Q
   with_current a s = record { number = s.number; time = s.time; halted = s.halted; position = s.position; source = s.source; current = Some a; waiting = s.waiting; opened = s.opened }
 
-  abbrev pub with_waiting : List EndedAuction → RoomState P Q → RoomState P Q
+  abbrev pub with_waiting : List EndedValues → RoomState P Q → RoomState P Q
   with_waiting es s = record { number = s.number; time = s.time; halted = s.halted; position = s.position; source = s.source; current = s.current; waiting = es; opened = s.opened }
 
   -- The open auction, if there is one, ends for the cause of this letter and waits to be collected.

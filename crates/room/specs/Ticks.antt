@@ -12,7 +12,7 @@ use Rattle.allocation.specs.Table.{any_below}
 use Rattle.room.specs.Checks.{time_checks}
 use Rattle.room.specs.Clock.{timed}
 use Rattle.room.specs.Refusals.{RefusalTold, by_fault}
-use Rattle.room.specs.State.{OpenAuction, RoomState, at_position, with_current, ended}
+use Rattle.room.specs.State.{OpenValues, RoomState, at_position, with_current, ended}
 use Rattle.room.specs.World.{World}
 
 -- A shown price is above a price; a side with no price is above nothing.
@@ -54,17 +54,17 @@ floor_now None z = z
 floor_now (Some f) z = f
 
 -- The open auction with another floor.
-abbrev pub at_floor : ℤ → OpenAuction → OpenAuction
+abbrev pub at_floor : ℤ → OpenValues → OpenValues
 at_floor f a = record { number = a.number; deadline = a.deadline; values = with_floor a.values f; arrivals = a.arrivals; used = a.used }
 
 module _ {P Q : Type 0} where
   -- The auction that a tick ends keeps the floor from before the tick; with no end, the new floor counts.
-  abbrev pub ticked_for : Option ℕ → TurnedQuote → RoomState P Q → OpenAuction → RoomState P Q
+  abbrev pub ticked_for : Option ℕ → TurnedQuote → RoomState P Q → OpenValues → RoomState P Q
   ticked_for (Some c) q s a = ended c s
   ticked_for None q s a = with_current (at_floor (floor_now q.floor a.values.floor) a) s
 
   -- What the market now shows to the open auction, if there is one.
-  abbrev pub ticked : Option OpenAuction → Quote → RoomState P Q → RoomState P Q
+  abbrev pub ticked : Option OpenValues → Quote → RoomState P Q → RoomState P Q
   ticked None q s = s
   ticked (Some a) q s = let f = turned_quote a.values.order.side q in ticked_for (tick_cause a.values f) f s a
 

@@ -1,6 +1,6 @@
 -- What a room is made over: a market, an interval source and a ranking, by their meanings.
 use Rattle.std.specs.Prelude.{◌≡◌, Bool, true, not, ◌≢◌}
-use Rattle.market.specs.Meaning.{Meaning, RefusedLeaves}
+use Rattle.market.specs.Market.{Meaning, RefusedLeaves}
 use Rattle.interval.specs.Source.{SourceMeaning, WithinLimits}
 use Rattle.allocation.specs.declared.response.Key.{Key}
 

@@ -3,14 +3,14 @@
 ghost use Rattle.std.specs.Prelude.{◌≡◌, ◌-◌, ◌<◌, ◌≤◌, true, Ok, Some, None as Nothing};
 ghost use Rattle.std.specs.Result.{result_map_both};
 ghost use Rattle.allocation.specs.AuctionInvariant.{from_to};
-ghost use Rattle.market.specs.Prices.{in_limits};
-ghost use Rattle.market.specs.Turned.{turned};
+ghost use Rattle.market.specs.Limits.{in_limits};
+ghost use Rattle.market.specs.Side.{turned};
 ghost use Rattle.room.specs.Checks.{time_checked, price_checked, size_checked, member_checked, own_checked};
 ghost use Rattle.room.specs.Refusals.{refusal_number, unless, HoldsNoFault};
 
 use crate::refusal::Refusal;
 use allocation::limits::{is_member, is_own_number, is_size};
-use market::prices::in_limits;
+use market::limits::in_limits;
 use market::side::Side;
 
 const LAST_TIME: u64 = 4_000_000_000_000;

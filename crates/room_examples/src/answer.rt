@@ -1,7 +1,7 @@
 // Answers as they are printed, and whether each is as the rules have it.
 use crate::made::TouchAnswer;
-use session::answers::Answer;
-use session::desk::{Closed, ClosedAuction};
+use session::answer::Answer;
+use session::closed::{Closed, ClosedAuction};
 use std::{fmt, io};
 
 #[derive(Clone, Copy)]

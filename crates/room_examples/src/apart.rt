@@ -7,12 +7,13 @@ use crate::answer::{print_closed, verdict};
 use crate::claims::{Opened, TouchRoom, open_in, settle, show_collected};
 use crate::counting::CountingSource;
 use crate::made::{ROOM, TouchCall, opening, quoting};
-use allocation::rankings::EarlierArrival;
+use allocation::ranking::EarlierArrival;
 use interval::fixed::FixedInterval;
 use market::touch::Touch;
 use room::claim::Claim;
 use room::parts::RoomParts;
-use session::desk::{Closed, ClosedAuction, Desk};
+use session::closed::{Closed, ClosedAuction};
+use session::desk::Desk;
 use std::alloc::{AllocError, Global};
 use std::io;
 

@@ -1,11 +1,11 @@
 // The rooms of these examples: over a touch, with intervals of 100 and ranking by arrival. The touch bids 290 and offers 300.
 ghost use Rattle.std.specs.Prelude.{◌≡◌};
-ghost use Rattle.session.specs.declared.calls.Call.TheVariants.{Collect};
+ghost use Rattle.session.specs.declared.call.Call.TheVariants.{Collect};
 ghost use Rattle.session.specs.Claims.{claim_to};
 
 use allocation::fill::LEAST_ROWS;
 use allocation::order::{Guarantee, GuaranteeKind, PairedOrder};
-use allocation::rankings::EarlierArrival;
+use allocation::ranking::EarlierArrival;
 use allocation::response::{Class, Kind};
 use interval::fixed::FixedInterval;
 use market::fault::Fault;
@@ -14,8 +14,8 @@ use market::side::Side;
 use market::touch::Touch;
 use room::answers::ClaimNumbers;
 use room::requests::{ChangeRequest, OpeningRequest, ResponseRequest, WithdrawRequest};
-use session::answers::Answer;
-use session::calls::Call;
+use session::answer::Answer;
+use session::call::Call;
 use session::desk::Desk;
 use std::alloc::Global;
 

@@ -1,7 +1,7 @@
 // A million auctions in one room, and one more.
 use crate::answer::{Told, is_refusal, print_auctions, verdict};
 use crate::made::{TouchDesk, collecting, desk, opening, quoting};
-use session::answers::Answer;
+use session::answer::Answer;
 use std::alloc::{AllocError, Global};
 use std::io;
 

@@ -1,18 +1,18 @@
 // A run that is handed a claim of another room.
 ghost use Rattle.std.specs.Prelude.{◌≡◌, [], ◌∷◌, map, vec_items, IfOk};
 ghost use Rattle.room.specs.Rooms.{claim_numbers};
-ghost use Rattle.session.specs.declared.calls.Call.TheVariants.{Collect};
+ghost use Rattle.session.specs.declared.call.Call.TheVariants.{Collect};
 ghost use Rattle.session.specs.Claims.{claim_to};
 
 use crate::answer::{Told, verdict};
 use crate::claims::{Opened, open_in, settle, show_collected};
 use crate::made::{TouchAnswer, TouchCall, collecting_in};
-use allocation::rankings::EarlierArrival;
+use allocation::ranking::EarlierArrival;
 use interval::fixed::FixedInterval;
 use market::touch::Touch;
+use room::Room;
 use room::claim::Claim;
-use room::room::Room;
-use session::session::Session;
+use session::Session;
 use std::alloc::{AllocError, Global};
 use std::io;
 

@@ -1,23 +1,22 @@
 // A room's own methods, called one after another from its making on: by their contracts the calls are a run.
 ghost use Rattle.std.specs.Prelude.{◌≡◌, [], ◌∷◌, map};
-ghost use Rattle.market.specs.Meaning.{told_by};
+ghost use Rattle.market.specs.Market.{told_by};
 ghost use Rattle.room.specs.Refusals.{refusal_told};
 ghost use Rattle.room.specs.Rooms.{world_of};
-ghost use Rattle.session.specs.declared.calls.Call.TheVariants.{Halt, Look};
+ghost use Rattle.session.specs.declared.call.Call.TheVariants.{Halt, Look};
 ghost use Rattle.session.specs.Laws.{LawsOfRun};
 ghost use Rattle.session.specs.Runs.{Accepted, Looked, answered, run};
 
 use crate::answer::verdict;
 use crate::made::ROOM;
-use allocation::ranking::Ranking;
-use allocation::rankings::EarlierArrival;
+use allocation::ranking::{EarlierArrival, Ranking};
 use interval::fixed::FixedInterval;
 use interval::source::IntervalSource;
-use market::market::Market;
+use market::Market;
 use market::touch::Touch;
+use room::Room;
 use room::answers::View;
 use room::refusal::Refusal;
-use room::room::Room;
 use session::laws::calls_in_turn_are_a_run;
 use std::io;
 

@@ -11,7 +11,7 @@ pub value_after_ge : (n : ℕ) (ds : List ℕ) → n ≤ digits_value_after 10 n
 value_after_ge n [] = omega arith
 value_after_ge n (d ∷ ds) = omega (arith, value_after_ge (n * 10 + digit_value d) ds)
 
--- Held at the most first, a number comes to the same with more digits behind it.
+-- StatementFits at the most first, a number comes to the same with more digits behind it.
 pub held_value_after : (most n : ℕ) (ds : List ℕ) → min most (digits_value_after 10 (min most n) ds) ≡ min most (digits_value_after 10 n ds)
 held_value_after most n ds = grind (arith, value_after_ge n ds, value_after_ge most ds)
 

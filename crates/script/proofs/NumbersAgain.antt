@@ -12,12 +12,12 @@ use Rattle.std.specs.Str.{all_ascii_digits, bytes_eq}
 use Rattle.std.specs.Str.Parse.{AllDigits, digits_value}
 use Rattle.script.proofs.Spaced.{plain, and_true}
 use Rattle.script.specs.declared.misread.Expected.{Expected}
-use Rattle.script.specs.Numbers.{number_in, signed_in, price_in}
+use Rattle.script.specs.Number.{number_in, signed_in, price_in}
 use Rattle.script.specs.Readers.{Word, has_minus, a_number, a_price}
 use Rattle.script.specs.Words.{is_blank, is_comment, has_bytes}
 
-own : IsNumeralModel (λ ds. all_ascii_digits ds ≡ true) (digits_value 10)
-own = numerals_by_value _ tells_all_ascii_digits
+digits_model : IsNumeralModel (λ ds. all_ascii_digits ds ≡ true) (digits_value 10)
+digits_model = numerals_by_value _ tells_all_ascii_digits
 
 has_digit : (ds : List ℕ) → 0 < length ds → has_bytes ds ≡ true
 has_digit [] h = absurd (omega arith)
@@ -43,13 +43,13 @@ plain_decimal n h =
 
 -- The number that digits write is the number that was written.
 number_in-decimal : (n : ℕ) → n < 2 ^ 64 → number_in (decimal n) ≡ Some n
-number_in-decimal n h = rw (has_digit (decimal n) (decimal_is_IsNumeral n h).0.0, digits_decimal own n h, digits_value-decimal own n h) refl
+number_in-decimal n h = rw (has_digit (decimal n) (decimal_is_IsNumeral n h).0.0, digits_decimal digits_model n h, digits_value-decimal digits_model n h) refl
 
 -- A number reads again.
 pub number_again : (bits n : ℕ) (what : Expected) (ws : List Word) → n < 2 ^ bits → n < 2 ^ 64 → a_number bits what (decimal n ∷ ws) ≡ Ok (n, ws)
 number_again bits n what ws h k =
     let least : min (2 ^ bits - 1) n ≡ n = omega arith in
-    rw (no_minus (decimal n) (digits_decimal own n k), number_in-decimal n k, least) refl
+    rw (no_minus (decimal n) (digits_decimal digits_model n k), number_in-decimal n k, least) refl
 
 signed_digits : (ds : List ℕ) → has_bytes ds ≡ true → all_ascii_digits ds ≡ true → signed_in ds ≡ option_map pos (number_in ds)
 signed_digits [] h k = cc
@@ -60,7 +60,7 @@ price_in-signed (pos n) h =
     let small : n < 2 ^ 63 = h.sfits in
     let least : min n (2 ^ 63 - 1) ≡ n = omega arith in
     let fits : n < 2 ^ 64 = omega arith in
-    rw (signed_digits (decimal n) (has_digit (decimal n) (decimal_is_IsNumeral n fits).0.0) (digits_decimal own n fits), number_in-decimal n fits, least) refl
+    rw (signed_digits (decimal n) (has_digit (decimal n) (decimal_is_IsNumeral n fits).0.0) (digits_decimal digits_model n fits), number_in-decimal n fits, least) refl
 price_in-signed (negsuc n) h =
     let small : n < 2 ^ 63 = h.sfits in
     let least : min n (2 ^ 63 - 1) ≡ n = omega arith in
@@ -87,5 +87,5 @@ digits_are_not_none [] h = refl
 digits_are_not_none (d ∷ ds) h = grind (arith, nat_tests)
 
 pub signed_is_not_none : (z : ℤ) → FitsSigned w64 z → bytes_eq (signed_decimal z) (codes "none") ≡ false
-signed_is_not_none (pos n) h = let small : n < 2 ^ 63 = h.sfits in digits_are_not_none (decimal n) (digits_decimal own n (omega arith))
+signed_is_not_none (pos n) h = let small : n < 2 ^ 63 = h.sfits in digits_are_not_none (decimal n) (digits_decimal digits_model n (omega arith))
 signed_is_not_none (negsuc n) h = refl

@@ -4,7 +4,7 @@ use Rattle.std.proofs.Math.Numerals.{one-add}
 use Rattle.std.specs.List.{list_all, before_first}
 use Rattle.script.specs.Readers.{Word}
 use Rattle.script.specs.Words.{is_blank, is_comment, onto_first, pieces, has_bytes, words_in, line_words}
-use Rattle.script.specs.Writing.{spaced}
+use Rattle.script.specs.Write.{spaced}
 
 -- A word has a byte at least, and no blank and no comment.
 abbrev pub plain : Word → Bool

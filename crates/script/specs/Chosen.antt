@@ -2,10 +2,10 @@
 use Rattle.std.specs.Prelude.{ℕ, Bool, Result, Ok}
 use Rattle.std.specs.Result.{result_map_both}
 use Rattle.allocation.specs.declared.response.Key.{Key}
-use Rattle.allocation.specs.Rankings.{earlier, larger}
+use Rattle.allocation.specs.Ranking.{earlier, larger}
 use Rattle.interval.specs.declared.refusal.IntervalRefusal.{IntervalRefusal}
 use Rattle.interval.specs.Fixed.{fixed_made}
-use Rattle.interval.specs.Refusals.{interval_refusal_number}
+use Rattle.interval.specs.Refusal.{interval_refusal_number}
 use Rattle.interval.specs.Source.{SourceMeaning}
 use Rattle.interval.specs.Stepping.{stepped, drawn}
 use Rattle.script.specs.declared.statement.IntervalTerms.{IntervalTerms}

@@ -4,7 +4,7 @@ use Rattle.std.specs.Prelude.{ℕ, List, [], ◌∷◌, codes, if◌then◌else�
 use Rattle.std.specs.Str.{bytes_eq}
 use Rattle.market.specs.declared.better_of.Half.TheVariants.{Left, Right}
 use Rattle.market.specs.declared.better_of.Half.{Half}
-use Rattle.market.specs.declared.legs.leg.LegTick.{LegTick}
+use Rattle.market.specs.declared.leg.LegTick.{LegTick}
 use Rattle.market.specs.declared.quote.Quote.{Quote}
 use Rattle.script.specs.declared.misread.Expected.TheVariants as expected
 use Rattle.script.specs.declared.misread.Misread.{Misread}
@@ -21,7 +21,7 @@ use Rattle.script.specs.declared.statement.Statement.{Statement}
 use Rattle.script.specs.Parts.{side_named, ranking_named, source_named, half_named, guarantee_named, kind_named, class_named, at_named, book_price_named}
 use Rattle.script.specs.Readers.{Word, Reader, ◌>>=◌, give, give_up, a_number, optional_number, a_price, one_of}
 use Rattle.script.specs.Words.{line_words}
-use Rattle.session.specs.declared.calls.Call.TheVariants as call
+use Rattle.session.specs.declared.call.Call.TheVariants as call
 
 -- room NUMBER
 unfoldable pub room : Reader Statement
@@ -184,10 +184,10 @@ whole (Ok (s, w ∷ ws)) = Err Surplus
 whole (Err e) = Err e
 
 -- What these words say in a script of the room of this number; no words say nothing.
-abbrev pub said : ℕ → List Word → Result (Option Statement) Misread
-said number [] = Ok None
-said number (w ∷ ws) = whole (statement_after number w ws)
+abbrev pub statement_of : ℕ → List Word → Result (Option Statement) Misread
+statement_of number [] = Ok None
+statement_of number (w ∷ ws) = whole (statement_after number w ws)
 
 -- What a line says there.
 abbrev pub statement_in : ℕ → List ℕ → Result (Option Statement) Misread
-statement_in number line = said number (line_words line)
+statement_in number line = statement_of number (line_words line)

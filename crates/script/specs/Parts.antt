@@ -10,7 +10,7 @@ use Rattle.allocation.specs.declared.response.Kind.{Kind}
 use Rattle.allocation.specs.declared.response.Kind.TheVariants.{Sealed, Plain}
 use Rattle.market.specs.declared.side.Side.{Side}
 use Rattle.market.specs.declared.side.Side.TheVariants.{Buy, Sell}
-use Rattle.script.specs.Numbers.{price_in}
+use Rattle.script.specs.Number.{price_in}
 use Rattle.script.specs.Readers.{Word}
 use Rattle.script.specs.declared.chosen.ChosenRanking.{ChosenRanking}
 use Rattle.script.specs.declared.chosen.ChosenRanking.TheVariants.{Arrival, Size}

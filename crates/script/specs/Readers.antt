@@ -1,7 +1,7 @@
 -- Readers: what the words that are left say first, and the words behind that; or why they say nothing.
 use Rattle.std.specs.Prelude.{ℕ, ◌-◌, ◌^◌, ℤ, Bool, false, min, List, [], ◌∷◌, cond, ◌==◌, Option, Some, None, Result, Ok, Err}
 use Rattle.std.specs.Option.{option_map}
-use Rattle.script.specs.Numbers.{number_in, price_in}
+use Rattle.script.specs.Number.{number_in, price_in}
 use Rattle.script.specs.declared.misread.Expected.{Expected}
 use Rattle.script.specs.declared.misread.Misread.{Misread}
 use Rattle.script.specs.declared.misread.Misread.TheVariants.{Missing, Unknown, Negative}
@@ -60,13 +60,13 @@ has_minus [] = false
 has_minus (b ∷ bs) = b == 45
 
 -- A number with no minus; one above the most is taken as the most.
-abbrev pub number_told : ℕ → Expected → Word → Result ℕ Misread
-number_told most what w = cond (has_minus w) (Err (Negative what)) (known what (option_map (min most) (number_in w)))
+abbrev pub unsigned_number : ℕ → Expected → Word → Result ℕ Misread
+unsigned_number most what w = cond (has_minus w) (Err (Negative what)) (known what (option_map (min most) (number_in w)))
 
 abbrev pub number_up_to : ℕ → Expected → Reader ℕ
 number_up_to most what = do
   w ← a_word what
-  with_rest (number_told most what w)
+  with_rest (unsigned_number most what w)
 
 -- A number; one that so many bits do not hold is taken as the most that they hold.
 abbrev pub a_number : ℕ → Expected → Reader ℕ

@@ -3,10 +3,10 @@ use Rattle.std.specs.Prelude.{Option}
 use Rattle.market.specs.declared.better_of.Half.{Half}
 use Rattle.market.specs.declared.fault.Fault.{Fault}
 use Rattle.market.specs.BetterOf.{half_told}
-use Rattle.market.specs.Faults.{FaultTold, fault_told}
-use Rattle.session.specs.declared.answers.Answer.{Answer as CodeAnswer}
+use Rattle.market.specs.Fault.{FaultTold, fault_told}
+use Rattle.session.specs.declared.answer.Answer.{Answer as CodeAnswer}
 use Rattle.session.specs.Runs.{Answer}
-use Rattle.session.specs.Told.{told}
+use Rattle.session.specs.Answer.{told}
 
 -- A fault of the CUBE market: which half of it refused, and what is told of that half's fault.
 abbrev pub CubeFaultTold : Type 0

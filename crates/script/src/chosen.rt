@@ -6,8 +6,7 @@ ghost use Rattle.script.specs.declared.chosen.ChosenInterval.{ChosenInterval};
 ghost use Rattle.std.proofs.Common.{rules, arith};
 
 use crate::statement::IntervalTerms;
-use allocation::ranking::Ranking;
-use allocation::rankings::{EarlierArrival, LargerSize};
+use allocation::ranking::{EarlierArrival, LargerSize, Ranking};
 use allocation::response::Key;
 use interval::fixed::FixedInterval;
 use interval::refusal::IntervalRefusal;

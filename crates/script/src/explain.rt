@@ -1,13 +1,13 @@
 // Every refusal number, cause letter and fault cause, each with its meaning.
 ghost use Rattle.std.specs.Prelude.{◌≡◌, true, is_some};
-ghost use Rattle.script.specs.Explained.{is_refusal_number};
+ghost use Rattle.script.specs.Explain.{is_refusal_number};
 ghost use Rattle.interval.specs.declared.refusal.IntervalRefusal.{IntervalRefusal};
-ghost use Rattle.interval.specs.Refusals.{interval_refusal_number};
+ghost use Rattle.interval.specs.Refusal.{interval_refusal_number};
 ghost use Rattle.market.specs.declared.better_of.Half.{Half};
 ghost use Rattle.market.specs.declared.fault.Fault.{Fault};
 ghost use Rattle.market.specs.declared.refusal.RangeRefusal.{RangeRefusal};
 ghost use Rattle.market.specs.declared.refusal.SetupRefusal.{SetupRefusal};
-ghost use Rattle.market.specs.Refusals.{setup_number, range_number};
+ghost use Rattle.market.specs.Refusal.{setup_number, range_number};
 ghost use Rattle.room.specs.declared.refusal.Refusal.{Refusal};
 ghost use Rattle.room.specs.Refusals.{refusal_number};
 

@@ -1,6 +1,6 @@
 // Why a line is not understood. Only what was expected is told, and never what the line says.
 ghost use Rattle.std.specs.Prelude.{Some};
-ghost use Rattle.script.specs.Misreadings.{expected_text, misread_text};
+ghost use Rattle.script.specs.Misread.{expected_text, misread_text};
 
 use std::fmt;
 

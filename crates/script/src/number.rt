@@ -1,7 +1,7 @@
 // Decimal numbers of any length. One that no machine word holds is taken as the nearest that the word holds.
 ghost use Rattle.std.specs.Prelude.{◌≡◌, ℕ, min};
 ghost use Rattle.std.specs.Option.{option_map};
-ghost use Rattle.script.specs.Numbers.{number_in, price_in};
+ghost use Rattle.script.specs.Number.{number_in, price_in};
 
 // The number that digits write, or the most that is asked for, whichever is less; none unless there is a digit and nothing
 // else.

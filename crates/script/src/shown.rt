@@ -7,7 +7,7 @@ ghost use Rattle.script.specs.Told.{CubeFaultTold};
 
 use crate::statement::Statement;
 use market::cube::CubeTick;
-use session::calls::Call;
+use session::call::Call;
 
 /// Whether a member is shown what a call is answered: looks, and its own responses, changes and withdrawals.
 pub fn is_shown_to(call: &Call<CubeTick>, member: u8) -> bool

@@ -4,9 +4,9 @@ ghost use Rattle.std.specs.Prelude.{◌≡◌};
 use crate::chosen::ChosenRanking;
 use market::better_of::Half;
 use market::cube::CubeTick;
-use market::legs::leg::LegTerms;
+use market::leg::LegTerms;
 use market::side::Side;
-use session::calls::Call;
+use session::call::Call;
 
 /// What a line says: something to set before the room is made, a call on the room, or a question about the market.
 #[derive(Drop)]

@@ -2,8 +2,8 @@
 ghost use Rattle.std.specs.Prelude.{◌≡◌, ℕ, Some, Ok};
 ghost use Rattle.script.specs.declared.statement.Statement.{Statement};
 ghost use Rattle.script.specs.Grammar.{statement_in};
-ghost use Rattle.script.specs.Held.{Held};
-ghost use Rattle.script.specs.Writing.{spaced, ranking_name, guarantee_name, book_price_word, interval_words, setting_words, tick_words, opening_words, response_words, call_words, statement_text};
+ghost use Rattle.script.specs.Fits.{StatementFits};
+ghost use Rattle.script.specs.Write.{spaced, ranking_name, guarantee_name, book_price_word, interval_words, setting_words, tick_words, opening_words, response_words, call_words, statement_text};
 
 use crate::chosen::ChosenRanking;
 use crate::statement::{IntervalTerms, RangeQuestion, Setting, Statement};
@@ -12,7 +12,7 @@ use allocation::order::GuaranteeKind;
 use market::better_of::Half;
 use market::cube::CubeTick;
 use room::requests::{ChangeRequest, OpeningRequest, ResponseRequest, WithdrawRequest};
-use session::calls::Call;
+use session::call::Call;
 use std::fmt;
 
 impl fmt::Display for ChosenRanking {
@@ -226,5 +226,5 @@ impl fmt::Display for Statement {
 
 /// Each statement, written and read in the script of its room, is the statement again. It computes nothing.
 pub fn statements_read_again()
-    ensures { (room : ℕ) (s : Statement) → Held room s → statement_in room (statement_text s) ≡ Ok (Some s) }
+    ensures { (room : ℕ) (s : Statement) → StatementFits room s → statement_in room (statement_text s) ≡ Ok (Some s) }
 {}

@@ -8,14 +8,14 @@ use Rattle.std.specs.List.{remove}
 use Rattle.room.specs.declared.answers.ClaimNumbers.{ClaimNumbers}
 use Rattle.room.specs.Collecting.{CollectionTold, collectable, collect_call, collect_rows, fill_rows, waiting_now, written}
 use Rattle.room.specs.Refusals.{RefusalTold, refuse, unless, outcome}
-use Rattle.room.specs.State.{EndedAuction, RoomState, is_number, numbered, without_number, with_waiting}
+use Rattle.room.specs.State.{EndedValues, RoomState, is_number, numbered, without_number, with_waiting}
 use Rattle.room.specs.World.{World}
 use Rattle.room.proofs.Tests.{true_false}
-use Rattle.room.specs.declared.auction.WaitingAuction.{WaitingAuction}
+use Rattle.room.specs.declared.ended.EndedAuction.{EndedAuction}
 use Rattle.room.specs.Rooms.{listed}
 use Rattle.session.specs.Claims.{claim_to, claims_to, number_of_open}
-use Rattle.session.specs.Desks.{first_of}
-use Rattle.session.specs.Sessions.{given}
+use Rattle.session.specs.Closed.{first_of}
+use Rattle.session.specs.SessionState.{given}
 
 -- the first and the rest of a list
 pub first_is : {X : Type 0} (x y : X) (xs ys : List X) → x ∷ xs ≡ y ∷ ys → (x ≡ y) × (xs ≡ ys)
@@ -26,8 +26,8 @@ none_first x xs h = cc
 
 module _ {P T F Q : Type 0} (w : World P T F Q) (s : RoomState P Q) (c : ClaimNumbers) (cs : List ClaimNumbers) where
   pub record FirstCollected : Type 0 where
-    pub auction : EndedAuction
-    pub rest : List EndedAuction
+    pub auction : EndedValues
+    pub rest : List EndedValues
     pub waiting_is : s.waiting ≡ auction ∷ rest
     pub claim_is : c ≡ claim_to s.number auction.number
     pub state_is : (collect_call w s c 129).0 ≡ with_waiting rest s
@@ -39,21 +39,21 @@ module _ {P T F Q : Type 0} (w : World P T F Q) (s : RoomState P Q) (c : ClaimNu
   same n = grind (arith, nat_tests)
 
   -- what a collecting finds, by the claim's room, the open auction and those that wait
-  abbrev found : Bool → Bool → Option EndedAuction → Result EndedAuction ℕ
+  abbrev found : Bool → Bool → Option EndedValues → Result EndedValues ℕ
   found here opened o = unless (refuse (not here) 42 (refuse opened 41 None)) (waiting_now o)
 
-  abbrev done : Result EndedAuction ℕ → RoomState P Q × Result CollectionTold (RefusalTold F)
+  abbrev done : Result EndedValues ℕ → RoomState P Q × Result CollectionTold (RefusalTold F)
   done y = outcome y s (λ e. with_waiting (without_number c.auction s.waiting) s) (λ e. record { count = length (fill_rows w e); cause = e.cause })
 
-  claims_are : (es : List EndedAuction) → s.current ≡ None → s.waiting ≡ es → claims_to s ≡ map (claim_to s.number) (map (λ (e : EndedAuction). e.number) es ++ [])
+  claims_are : (es : List EndedValues) → s.current ≡ None → s.waiting ≡ es → claims_to s ≡ map (claim_to s.number) (map (λ (e : EndedValues). e.number) es ++ [])
   claims_are es n e =
-      ap (λ o. map (claim_to s.number) (map (λ (e : EndedAuction). e.number) s.waiting ++ number_of_open o)) n
-      ∙ ap (λ l. map (claim_to s.number) (map (λ (e : EndedAuction). e.number) l ++ [])) e
+      ap (λ o. map (claim_to s.number) (map (λ (e : EndedValues). e.number) s.waiting ++ number_of_open o)) n
+      ∙ ap (λ l. map (claim_to s.number) (map (λ (e : EndedValues). e.number) l ++ [])) e
 
-  pub first_collected : (es : List EndedAuction) → s.current ≡ None → s.waiting ≡ es → c ∷ cs ≡ claims_to s → FirstCollected
+  pub first_collected : (es : List EndedValues) → s.current ≡ None → s.waiting ≡ es → c ∷ cs ≡ claims_to s → FirstCollected
   first_collected [] n e h = none_first c cs (h ∙ claims_are [] n e)
   first_collected (x ∷ xs) n e h =
-      let both = first_is c (claim_to s.number x.number) cs (map (claim_to s.number) (map (λ (e : EndedAuction). e.number) xs ++ [])) (h ∙ claims_are (x ∷ xs) n e) in
+      let both = first_is c (claim_to s.number x.number) cs (map (claim_to s.number) (map (λ (e : EndedValues). e.number) xs ++ [])) (h ∙ claims_are (x ∷ xs) n e) in
       let room = ap (λ (k : ClaimNumbers). eqb k.room s.number) both.0 ∙ same s.number in
       let opened = ap (is_number c.auction) n in
       let first = ap (λ (k : ClaimNumbers). eqb x.number k.auction) both.0 ∙ same x.number in
@@ -70,7 +70,7 @@ module _ {P T F Q : Type 0} (w : World P T F Q) (s : RoomState P Q) (c : ClaimNu
         state_is = ap (λ r. (done r).0) y ∙ ap (λ l. with_waiting l s) others;
         answer_is = ap (λ r. (done r).1) y;
         rows_are = ap (written w) y;
-        claims_left = both.1 ∙ sym (ap (λ o. map (claim_to s.number) (map (λ (e : EndedAuction). e.number) xs ++ number_of_open o)) n);
+        claims_left = both.1 ∙ sym (ap (λ o. map (claim_to s.number) (map (λ (e : EndedValues). e.number) xs ++ number_of_open o)) n);
       }
 
 -- what is told of a result is accepted if the result is
@@ -87,30 +87,30 @@ pub some_there : {X Z : Type 0} (v : Vec X Z) (empty : Bool) → empty ≡ eqb (
 some_there v empty e f h = true_false (sym (ap (λ n. eqb n 0) (v.ok.0 ∙ h)) ∙ sym e ∙ f)
 
 -- Of the two that can wait, both are told, and none is left.
-both_told : {X : Type 0} (f : EndedAuction → X) (a b : Option WaitingAuction)
+both_told : {X : Type 0} (f : EndedValues → X) (a b : Option EndedAuction)
     → given (first_of (map f (listed a b)) ∷ (first_of (map f (drop 1 (listed a b))) ∷ [])) ≡ map f (listed a b)
 both_told f None None = refl
 both_told f None (Some b) = refl
 both_told f (Some a) None = refl
 both_told f (Some a) (Some b) = refl
 
-pub two_told : {X : Type 0} (f : EndedAuction → X) (a b : Option WaitingAuction) (x y : Option X) → x ≡ first_of (map f (listed a b)) → y ≡ first_of (map f (drop 1 (listed a b)))
+pub two_told : {X : Type 0} (f : EndedValues → X) (a b : Option EndedAuction) (x y : Option X) → x ≡ first_of (map f (listed a b)) → y ≡ first_of (map f (drop 1 (listed a b)))
     → given (x ∷ (y ∷ [])) ≡ map f (listed a b)
 two_told f a b x y h k = ap (λ z. given (z ∷ (y ∷ []))) h ∙ ap (λ z. given (first_of (map f (listed a b)) ∷ (z ∷ []))) k ∙ both_told f a b
 
-none_after_two : (a b : Option WaitingAuction) → drop 1 (drop 1 (listed a b)) ≡ []
+none_after_two : (a b : Option EndedAuction) → drop 1 (drop 1 (listed a b)) ≡ []
 none_after_two None None = refl
 none_after_two None (Some b) = refl
 none_after_two (Some a) None = refl
 none_after_two (Some a) (Some b) = refl
 
 -- a room that two were collected in
-pub emptied : {P Q : Type 0} (a b : Option WaitingAuction) (s t u : RoomState P Q) → s.waiting ≡ listed a b → t ≡ with_waiting (drop 1 s.waiting) s → u ≡ with_waiting (drop 1 t.waiting) t → u ≡ with_waiting [] s
+pub emptied : {P Q : Type 0} (a b : Option EndedAuction) (s t u : RoomState P Q) → s.waiting ≡ listed a b → t ≡ with_waiting (drop 1 s.waiting) s → u ≡ with_waiting (drop 1 t.waiting) t → u ≡ with_waiting [] s
 emptied {P} {Q} a b s t u l h k = k ∙ ap (λ (v : RoomState P Q). with_waiting (drop 1 v.waiting) v) h ∙ ap (λ l. with_waiting l s) (ap (λ l. drop 1 (drop 1 l)) l ∙ none_after_two a b)
 
 -- A room that holds no open auction and none that waits: no claim is left.
 pub none_left : {P Q : Type 0} (s : RoomState P Q) → s.current ≡ None → s.waiting ≡ [] → claims_to s ≡ []
-none_left s n e = ap (λ o. map (claim_to s.number) (map (λ (e : EndedAuction). e.number) s.waiting ++ number_of_open o)) n ∙ ap (λ l. map (claim_to s.number) (map (λ (e : EndedAuction). e.number) l ++ [])) e
+none_left s n e = ap (λ o. map (claim_to s.number) (map (λ (e : EndedValues). e.number) s.waiting ++ number_of_open o)) n ∙ ap (λ l. map (claim_to s.number) (map (λ (e : EndedValues). e.number) l ++ [])) e
 
 pub none_of_none : {X Y Z : Type 0} (f : X → Y) (v : Vec X Z) → map f (vec_items v) ≡ [] → vec_len v ≡ 0
 none_of_none f v h = v.ok.0 ∙ sym (length-map (vec_items v) f) ∙ ap length h

@@ -1,19 +1,19 @@
 -- Calls that are made one after another at a desk keep the whole promise, and so does its closing.
 use Rattle.std.proofs.Common.{◌≡◌, List, [], ◌∷◌, ◌++◌, map, Option, sym, refl, ap, ◌∙◌, subst}
-use Rattle.room.specs.declared.room.Room.{Room}
+use Rattle.room.specs.declared.Room.{Room}
 use Rattle.room.specs.Rooms.{state_of}
 use Rattle.room.specs.State.{RoomState}
 use Rattle.room.specs.World.{World, Terms}
-use Rattle.session.specs.declared.calls.Call.{Call}
+use Rattle.session.specs.declared.call.Call.{Call}
 use Rattle.session.specs.declared.desk.Desk.{Desk}
-use Rattle.session.specs.Closings.{ClosedByCalls}
+use Rattle.session.specs.Closed.{ClosedByCalls}
 use Rattle.session.specs.DeskInTurn.{DeskCall, last_desk, room_at, world_at, DeskInTurn, desk_carried, DeskCallsKeepThePromise, none_carried, DeskPromise}
-use Rattle.session.specs.Desks.{at_desk, desk_after, desk_answer}
+use Rattle.session.specs.Desk.{at_desk, desk_after, desk_answer}
 use Rattle.session.specs.Promises.{Carried, Modelled, at_first}
 use Rattle.session.specs.Runs.{Answer}
-use Rattle.session.specs.Sessions.{Session, session_answer, session_answers, session_end}
-use Rattle.session.specs.Told.{told}
-use Rattle.session.proofs.Promised.{answers_behind, as_modelled, closed_promised, desk_at_end, desk_kept, end_behind, promised}
+use Rattle.session.specs.SessionState.{SessionState, session_answer, session_answers, session_end}
+use Rattle.session.specs.Answer.{told}
+use Rattle.session.proofs.Promises.{answers_behind, as_modelled, closed_promised, desk_at_end, desk_kept, end_behind, promised}
 
 module _ {M R S P T D F Q : Type 0} (world : R → World P T F Q) (position : M → P) (source : S → Q) (fault : D → F) where
   abbrev calls_of : List (DeskCall M R S T D) → List (Call T)
@@ -65,8 +65,8 @@ module _ {M R S P T D F Q : Type 0} (world : R → World P T F Q) (position : M 
             ap (λ l. l ++ answers_of cs) had.answers
             ∙ ap (λ l. session_answers w first past.calls ++ l) (did.answers ∙ ap (λ t. session_answers w t (calls_of cs)) (sym end))
             ∙ sym (answers_behind w first past.calls (calls_of cs));
-        room = sym (ap (λ (s : Session P Q). s.room) last);
-        claims = (last_desk d cs).all_held ∙ sym (ap (λ (s : Session P Q). s.purse) last);
+        room = sym (ap (λ (s : SessionState P Q). s.room) last);
+        claims = (last_desk d cs).all_held ∙ sym (ap (λ (s : SessionState P Q). s.purse) last);
       }) in
       record {
         promise = promise;

@@ -5,16 +5,16 @@ use Rattle.allocation.specs.declared.fill.FillRow.{FillRow}
 use Rattle.room.specs.declared.answers.ClaimNumbers.{ClaimNumbers}
 use Rattle.room.specs.declared.claim.Claim.{Claim}
 use Rattle.room.specs.declared.refusal.Refusal.{Refusal}
-use Rattle.room.specs.declared.room.Room.{Room}
+use Rattle.room.specs.declared.Room.{Room}
 use Rattle.room.specs.Collecting.{CollectionTold, collect_call, collect_rows}
 use Rattle.room.specs.Rooms.{claim_numbers, collected_answer, collection_answer}
 use Rattle.room.specs.State.{RoomState, new_room}
 use Rattle.room.specs.World.{World, Terms}
-use Rattle.session.specs.declared.calls.Call.{Call}
-use Rattle.session.specs.declared.calls.Call.TheVariants.{Open, Respond, Change, Withdraw, Tick, Halt, Resume, Clock, Look, Collect}
+use Rattle.session.specs.declared.call.Call.{Call}
+use Rattle.session.specs.declared.call.Call.TheVariants.{Open, Respond, Change, Withdraw, Tick, Halt, Resume, Clock, Look, Collect}
 use Rattle.session.specs.InTurn.{MethodCall, state_now, ByContract, collecting_told, MadeByContract, InTurn, moment_of, CallsInTurnAreARun}
 use Rattle.session.specs.Runs.{Answer, Looked, Collected, Moment, answered, answering, clock_stepped, given_time, input_refusal, moment, run_from, step}
-use Rattle.session.proofs.CollectsHeld.{accepted, refused}
+use Rattle.session.proofs.Collecting.{accepted, refused}
 use Rattle.session.proofs.RunLaws.{laws_of_run}
 use Rattle.room.specs.Refusals.{RefusalTold}
 

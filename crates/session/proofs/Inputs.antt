@@ -6,8 +6,8 @@ use Rattle.std.proofs.lemmas.Bool.Decides.{nat_tests}
 use Rattle.allocation.specs.AuctionInvariant.{from_to}
 use Rattle.room.specs.Checks.{price_ok}
 use Rattle.room.specs.Refusals.{refuse}
-use Rattle.session.specs.declared.calls.Call.{Call}
-use Rattle.session.specs.declared.calls.Call.TheVariants.{Open, Respond, Change, Withdraw, Tick, Halt, Resume, Clock, Look, Collect}
+use Rattle.session.specs.declared.call.Call.{Call}
+use Rattle.session.specs.declared.call.Call.TheVariants.{Open, Respond, Change, Withdraw}
 use Rattle.session.specs.Inputs.{beyond_prices, outside, input_reason}
 use Rattle.session.specs.Runs.{input_refusal}
 

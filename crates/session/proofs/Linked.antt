@@ -3,14 +3,14 @@ use Rattle.std.proofs.Common.{◌≡◌, ℕ, ◌≤◌, false, List, length, is
 use Rattle.allocation.specs.Auction.{told_of}
 use Rattle.room.specs.Clock.{due}
 use Rattle.room.specs.Openings.{stored_order}
-use Rattle.room.specs.State.{OpenAuction, RoomState, is_number, numbered, used_by}
+use Rattle.room.specs.State.{OpenValues, RoomState, is_number, numbered, used_by}
 use Rattle.room.specs.World.{World}
 use Rattle.room.proofs.Sound.{Sound}
 use Rattle.session.specs.History.{Exchange, Story, deadline_of, time_then, halted_then, openings, market_at, source_at, story_of, open_story, going_on, waits_then, waiting_then}
 use Rattle.session.specs.Reasons.{stored_by}
 
 -- an open auction and its story
-pub record Matches (s : Story) (a : OpenAuction) : Type 0 where
+pub record Matches (s : Story) (a : OpenValues) : Type 0 where
   pub order_is : a.values.order ≡ stored_order s.opening.range.floor s.opening.order
   pub initiating_is : a.values.initiating ≡ s.opening.range.initiating
   pub floor_is : a.values.floor ≡ s.floor
@@ -21,9 +21,9 @@ pub record Matches (s : Story) (a : OpenAuction) : Type 0 where
   pub sound : Sound a.values
 
 -- the open auction of a room and the story that goes on
-pub data Current : Option OpenAuction → Option Story → Type 0 where
+pub data Current : Option OpenValues → Option Story → Type 0 where
   none_open : Current None None
-  one_open : (a : OpenAuction) (s : Story) → Matches s a → Current (Some a) (Some s)
+  one_open : (a : OpenValues) (s : Story) → Matches s a → Current (Some a) (Some s)
 
 -- a room and the history that led to it
 pub record Linked {P T F Q : Type 0} (w : World P T F Q) (number : ℕ) (p : P) (q : Q) (past : List (Exchange T F)) (s : RoomState P Q) : Type 0 where

@@ -3,12 +3,12 @@ use Rattle.std.proofs.Common.{◌≡◌, ℕ, Bool, true, false, cond, not, eqb,
 use Rattle.std.proofs.lemmas.Bool.Decides.{nat_tests}
 use Rattle.std.specs.Option.{option_map}
 use Rattle.interval.specs.Source.{WithinLimits}
-use Rattle.market.specs.Turned.{turned}
+use Rattle.market.specs.Side.{turned}
 use Rattle.allocation.specs.declared.order.PairedOrder.{PairedOrder}
 use Rattle.room.specs.Looks.{auction_view, look_call}
-use Rattle.room.specs.State.{OpenAuction, RoomState, is_number, new_room}
+use Rattle.room.specs.State.{OpenValues, RoomState, is_number, new_room}
 use Rattle.room.specs.World.{World, Terms}
-use Rattle.session.specs.declared.calls.Call.{Call}
+use Rattle.session.specs.declared.call.Call.{Call}
 use Rattle.session.specs.History.{Exchange, Story, deadline_of, time_then, going_on, not_due, story_of, openings, open_story, story_view, view_then}
 use Rattle.session.specs.Moments.{is_open, history_of}
 use Rattle.room.specs.Clock.{due}
@@ -22,13 +22,13 @@ use Rattle.session.proofs.Ending.Laws.{throughout, time_now}
 use Rattle.session.proofs.Linked.{Linked, Matches, Current, none_open, one_open}
 
 -- an open auction shows what its opening told
-auction_shows : (n : ℕ) (a : OpenAuction) (s : Story) → a.number ≡ n → Matches s a → auction_view a ≡ story_view n s
+auction_shows : (n : ℕ) (a : OpenValues) (s : Story) → a.number ≡ n → Matches s a → auction_view a ≡ story_view n s
 auction_shows n a s e h =
     ap (λ k. record { number = k; side = a.values.order.side; size = a.values.order.size; initiating = turned a.values.order.side a.values.initiating }) e
     ∙ ap (λ (o : PairedOrder). record { number = n; side = o.side; size = o.size; initiating = turned o.side a.values.initiating }) h.order_is
     ∙ ap (λ z. record { number = n; side = s.opening.order.side; size = s.opening.order.size; initiating = turned s.opening.order.side z }) h.initiating_is
 
-current_shows : (n : ℕ) (o : Option OpenAuction) (s : Option Story) → is_number n o ≡ is_some s → Current o s → option_map auction_view o ≡ option_map (story_view n) s
+current_shows : (n : ℕ) (o : Option OpenValues) (s : Option Story) → is_number n o ≡ is_some s → Current o s → option_map auction_view o ≡ option_map (story_view n) s
 current_shows n o s e none_open = refl
 current_shows n o s e (one_open a f h) = let is : a.number ≡ n = grind (arith, nat_tests) in ap Some (auction_shows n a f is h)
 
@@ -50,7 +50,7 @@ module _ {P T F Q : Type 0} (w : World P T F Q) (number : ℕ) (p : P) (q : Q) w
     not_due_by f true e = ap (λ (b : Bool). is_some (cond b None (Some f))) e
     not_due_by f false e = ap (λ (b : Bool). is_some (cond b None (Some f))) e
 
-    stepped_open : (a : OpenAuction) → s.current ≡ Some a → eqb a.number n ≡ true → (f : Story) → going_on (story_of w p q n (history_of past)) ≡ Some f → a.deadline ≡ deadline_of f.opening → Stepped s u
+    stepped_open : (a : OpenValues) → s.current ≡ Some a → eqb a.number n ≡ true → (f : Story) → going_on (story_of w p q n (history_of past)) ≡ Some f → a.deadline ≡ deadline_of f.opening → Stepped s u
         → is_open n u ≡ is_some (not_due t (going_on (story_of w p q n (history_of past))))
     stepped_open a c i f e d (kept k y z) =
         let at : k ≡ t = sym (ap (λ (v : RoomState P Q). v.time) y) ∙ time in
@@ -59,7 +59,7 @@ module _ {P T F Q : Type 0} (w : World P T F Q) (number : ℕ) (p : P) (q : Q) w
     stepped_open a c i f e d (expired k b x y z) =
         let at : k ≡ t = sym (ap (λ (v : RoomState P Q). v.time) z) ∙ time in
         let is : b ≡ a = cc in
-        let late : leb (deadline_of f.opening) t ≡ true = ap (λ j. leb j t) (sym d) ∙ ap (leb a.deadline) (sym at) ∙ ap (λ (v : OpenAuction). leb v.deadline k) (sym is) ∙ y in
+        let late : leb (deadline_of f.opening) t ≡ true = ap (λ j. leb j t) (sym d) ∙ ap (leb a.deadline) (sym at) ∙ ap (λ (v : OpenValues). leb v.deadline k) (sym is) ∙ y in
         ap (is_open n) z ∙ sym (ap (λ o. is_some (not_due t o)) e ∙ not_due_by f true late)
 
     stepped_by_life : Life w p q n past s → Stepped s u → is_open n u ≡ is_some (not_due t (going_on (story_of w p q n (history_of past))))

@@ -12,9 +12,9 @@ use Rattle.std.specs.Str.{byte}
 use Rattle.market.specs.declared.range.TurnedQuote.{TurnedQuote}
 use Rattle.market.specs.declared.side.Side.{Side}
 use Rattle.market.specs.declared.side.Side.TheVariants.{Buy, Sell}
-use Rattle.market.specs.Prices.{in_limits}
+use Rattle.market.specs.Limits.{in_limits}
 use Rattle.market.specs.Range.{RangePrices, permitted, range_faced}
-use Rattle.market.specs.Turned.{turned}
+use Rattle.market.specs.Side.{turned}
 use Rattle.allocation.specs.declared.order.PairedOrder.{PairedOrder}
 use Rattle.allocation.specs.declared.response.Kind.{Kind}
 use Rattle.allocation.specs.declared.response.Kind.TheVariants.{Sealed, Plain}
@@ -35,13 +35,13 @@ use Rattle.room.specs.Halts.{halt_call, resume_call, clock_call}
 use Rattle.room.specs.Openings.{any_waits, guarantee_refusal, opening_range, opened_with, opening, open_call}
 use Rattle.room.specs.Refusals.{RefusalTold, by_number, refuse, unless, and_then, outcome}
 use Rattle.room.specs.Responses.{same_side, is_plain, responding_to, responding, change_refusal, changing_in, changing, standing_now, plain_checked, withdrawing_from, withdrawing, response_refusal, terms_told, stored_price, stored_size, responded, turned_in, respond_call, change_call, withdraw_call, with_change, with_withdrawal}
-use Rattle.room.specs.State.{OpenAuction, EndedAuction, RoomState, new_room, at_time, closed, ended, is_number, numbered, used_by, with_halted, with_current, with_waiting, without_number}
+use Rattle.room.specs.State.{OpenValues, EndedValues, RoomState, new_room, at_time, closed, ended, is_number, numbered, used_by, with_halted, with_current, with_waiting, without_number}
 use Rattle.room.specs.Ticks.{ticking, ticking_by, tick_call}
 use Rattle.room.specs.World.{World, Terms}
-use Rattle.room.proofs.Checked.{response_inside, change_inside}
+use Rattle.room.proofs.InsideLimits.{response_inside, change_inside}
 use Rattle.room.proofs.Tests.{none_some, ok_err, refuse_none, unless_ok, and_then_ok}
-use Rattle.session.specs.declared.calls.Call.{Call}
-use Rattle.session.specs.declared.calls.Call.TheVariants.{Open, Respond, Change, Withdraw, Tick, Halt, Resume, Clock, Look, Collect}
+use Rattle.session.specs.declared.call.Call.{Call}
+use Rattle.session.specs.declared.call.Call.TheVariants.{Open, Respond, Change, Withdraw, Tick, Halt, Resume, Clock, Look, Collect}
 use Rattle.session.specs.History.{Exchange, Story, deadline_of, is_plain_kind, opened_number, told_terms, going_on, not_due, clock_time, time_or_zero, time_then, halted_then, openings, market_at, shown_to, story_of, open_story, waiting_then}
 use Rattle.session.specs.Moments.{history_of}
 use Rattle.session.specs.Inputs.{first_that_holds, input_reasons, input_reason}
@@ -100,31 +100,31 @@ or_false : (b : Bool) → (b || false) ≡ b
 or_false true = refl
 or_false false = refl
 
-any_is : (es : List EndedAuction) → any_waits es ≡ ltb 0 (length es)
+any_is : (es : List EndedValues) → any_waits es ≡ ltb 0 (length es)
 any_is [] = refl
 any_is (e ∷ es) = grind (arith, nat_tests)
 
-any_behind : (es : List EndedAuction) (e : EndedAuction) → any_waits (es ++ e ∷ []) ≡ true
+any_behind : (es : List EndedValues) (e : EndedValues) → any_waits (es ++ e ∷ []) ≡ true
 any_behind [] e = refl
 any_behind (x ∷ es) e = refl
 
 -- An open auction whose deadline is reached ends at the clock step, and its story goes on no longer.
-closes_by : (b : Bool) (a : OpenAuction) (s : Story) → Matches s a → Current (cond b None (Some a)) (cond b None (Some s))
+closes_by : (b : Bool) (a : OpenValues) (s : Story) → Matches s a → Current (cond b None (Some a)) (cond b None (Some s))
 closes_by true a s m = none_open
 closes_by false a s m = one_open a s m
 
-closes : (o : Option OpenAuction) (r : Option Story) (t u : ℕ) → Current o r → t ≡ u → Current (cond (due t o) None o) (not_due u r)
+closes : (o : Option OpenValues) (r : Option Story) (t u : ℕ) → Current o r → t ≡ u → Current (cond (due t o) None o) (not_due u r)
 closes _ _ t u none_open e = none_open
 closes _ _ t u (one_open a s m) e =
     subst (λ b. Current (cond (leb a.deadline t) None (Some a)) (cond b None (Some s))) (ap (λ d. leb d t) m.deadline_is ∙ ap (leb (deadline_of s.opening)) e) (closes_by (leb a.deadline t) a s m)
 
 -- Some auction waits after the clock step if one did before, or the open one ends.
-waits_by : (b : Bool) (a : OpenAuction) (s : Story) (es : List EndedAuction)
+waits_by : (b : Bool) (a : OpenValues) (s : Story) (es : List EndedValues)
     → any_waits (cond b (closed (byte "T") (Some a) es) es) ≡ (ltb 0 (length es) || not (is_some (cond b None (Some s))))
 waits_by true a s es = any_behind es _ ∙ sym (or-true (ltb 0 (length es)))
 waits_by false a s es = any_is es ∙ sym (or_false (ltb 0 (length es)))
 
-waits_stepped : (o : Option OpenAuction) (r : Option Story) (t u : ℕ) (es : List EndedAuction) (n : ℕ) → Current o r → t ≡ u → length es ≡ n
+waits_stepped : (o : Option OpenValues) (r : Option Story) (t u : ℕ) (es : List EndedValues) (n : ℕ) → Current o r → t ≡ u → length es ≡ n
     → any_waits (cond (due t o) (closed (byte "T") o es) es) ≡ (ltb 0 n || (is_some r && not (is_some (not_due u r))))
 waits_stepped _ _ t u es n none_open e k = any_is es ∙ ap (ltb 0) k ∙ sym (or_false (ltb 0 n))
 waits_stepped _ _ t u es n (one_open a s m) e k =
@@ -194,7 +194,7 @@ range_reasons o opened (Some floor) (Some contra) =
     ∙ same_check _ _ 16 _ _ (lower_is limit contra guarantee) (same_check (leb 1000000 opened) (leb 1000000 opened) 17 None None refl refl))
 
 -- The tests of a response, a change and a withdrawal on the open auction.
-module _ (a : OpenAuction) (s : Story) (m : Matches s a) where
+module _ (a : OpenValues) (s : Story) (m : Matches s a) where
   order_side : a.values.order.side ≡ s.opening.order.side
   order_side = ap (λ (o : PairedOrder). o.side) m.order_is
 
@@ -231,7 +231,7 @@ module _ (a : OpenAuction) (s : Story) (m : Matches s a) where
       ∙ ap (λ r. first_that_holds (sealed_reasons r ++ (above_initiating s x.price, 23) ∷ ((used_up s x.member, 27) ∷ []))) (sym (stands_as x.member x.own))
 
   withdrawn_if : (o : Option Response)
-      → number_in {X = OpenAuction × Response} (and_then (standing_now o) (λ y. unless (plain_checked y None) (Ok (a, y))))
+      → number_in {X = OpenValues × Response} (and_then (standing_now o) (λ y. unless (plain_checked y None) (Ok (a, y))))
       ≡ first_that_holds (sealed_reasons (option_map (response_told a.values.order.side) o))
   withdrawn_if None = refl
   withdrawn_if (Some y) = number_unless (plain_checked y None) (a, y) ∙ same_check _ _ 26 None None (kind_is y.kind) refl
@@ -258,19 +258,19 @@ stored_due : (F : Type 0) {S X : Type 0} (y : Result X ℕ) (s : S) (effect : X 
 stored_due F (Ok x) s effect answer t due h g = g x refl ∙ (let e : answer x ≡ t = cc in ap Some e)
 stored_due F (Err e) s effect answer t due h g = absurd cc
 
-responded_to : (a b : OpenAuction) (x : ResponseRequest) → responding_to (Some a) x ≡ Ok b → a ≡ b
+responded_to : (a b : OpenValues) (x : ResponseRequest) → responding_to (Some a) x ≡ Ok b → a ≡ b
 responded_to a b x h = let e = (unless_ok (response_refusal a x) (Ok a) b h).1 in cc
 
 standing_ok : (o : Option Response) (y : Response) → standing_now o ≡ Ok y → o ≡ Some y
 standing_ok None y h = ok_err y _ (sym h)
 standing_ok (Some x) y h = cc
 
-changed_in : (a b : OpenAuction) (x : ChangeRequest) → changing_in (Some a) x ≡ Ok b → a ≡ b
+changed_in : (a b : OpenValues) (x : ChangeRequest) → changing_in (Some a) x ≡ Ok b → a ≡ b
 changed_in a b x h =
     let found = and_then_ok (standing_now (own_response x.member x.own a.values.stood)) (λ y. unless (change_refusal a y x) (Ok a)) b h in
     let e = (unless_ok (change_refusal a found.0 x) (Ok a) b found.2).1 in cc
 
-withdrawn_from : (a : OpenAuction) (f : OpenAuction × Response) (x : WithdrawRequest) → withdrawing_from (Some a) x ≡ Ok f
+withdrawn_from : (a : OpenValues) (f : OpenValues × Response) (x : WithdrawRequest) → withdrawing_from (Some a) x ≡ Ok f
     → (y : Response) × (own_response x.member x.own a.values.stood ≡ Some y) × ((a, y) ≡ f)
 withdrawn_from a f x h =
     let found = and_then_ok (standing_now (own_response x.member x.own a.values.stood)) (λ y. unless (plain_checked y None) (Ok (a, y))) f h in
@@ -278,39 +278,39 @@ withdrawn_from a f x h =
     (found.0, standing_ok (own_response x.member x.own a.values.stood) found.0 found.1, cc)
 
 -- By the open auction, if there is one.
-responding_told : (o : Option OpenAuction) (r : Option Story) (x : ResponseRequest) → Current o r → from_to 1 16 x.member ≡ true → number_in (responding_to o x) ≡ first_that_holds (by_open r (respond_reasons x))
+responding_told : (o : Option OpenValues) (r : Option Story) (x : ResponseRequest) → Current o r → from_to 1 16 x.member ≡ true → number_in (responding_to o x) ≡ first_that_holds (by_open r (respond_reasons x))
 responding_told _ _ x none_open h = refl
 responding_told _ _ x (one_open a s m) h = number_unless (response_refusal a x) a ∙ respond_told a s m x h
 
-changing_told : (o : Option OpenAuction) (r : Option Story) (x : ChangeRequest) → Current o r → from_to 1 16 x.member ≡ true → number_in (changing_in o x) ≡ first_that_holds (by_open r (change_reasons x))
+changing_told : (o : Option OpenValues) (r : Option Story) (x : ChangeRequest) → Current o r → from_to 1 16 x.member ≡ true → number_in (changing_in o x) ≡ first_that_holds (by_open r (change_reasons x))
 changing_told _ _ x none_open h = refl
 changing_told _ _ x (one_open a s m) h = change_told a s m x h
 
-withdrawing_told : (o : Option OpenAuction) (r : Option Story) (x : WithdrawRequest) → Current o r → number_in (withdrawing_from o x) ≡ first_that_holds (by_open r (withdraw_reasons x))
+withdrawing_told : (o : Option OpenValues) (r : Option Story) (x : WithdrawRequest) → Current o r → number_in (withdrawing_from o x) ≡ first_that_holds (by_open r (withdraw_reasons x))
 withdrawing_told _ _ x none_open = refl
 withdrawing_told _ _ x (one_open a s m) = withdraw_told a s m x
 
-responding_terms : (T : Type 0) (o : Option OpenAuction) (r : Option Story) (x : ResponseRequest) (b : OpenAuction) → Current o r → responding_to o x ≡ Ok b
+responding_terms : (T : Type 0) (o : Option OpenValues) (r : Option Story) (x : ResponseRequest) (b : OpenValues) → Current o r → responding_to o x ≡ Ok b
     → terms_due {T = T} r (Respond x) ≡ Some (terms_told b (stored_price b x.price) (stored_size b x.size))
 responding_terms T _ _ x b none_open h = ok_err b _ (sym h)
 responding_terms T _ _ x b (one_open a s m) h =
     ap Some (sym (terms_as a s m x.price x.size) ∙ ap (λ z. terms_told z (stored_price z x.price) (stored_size z x.size)) (responded_to a b x h))
 
-changing_terms : (T : Type 0) (o : Option OpenAuction) (r : Option Story) (x : ChangeRequest) (b : OpenAuction) → Current o r → changing_in o x ≡ Ok b
+changing_terms : (T : Type 0) (o : Option OpenValues) (r : Option Story) (x : ChangeRequest) (b : OpenValues) → Current o r → changing_in o x ≡ Ok b
     → terms_due {T = T} r (Change x) ≡ Some (terms_told b (stored_price b x.price) (stored_size b x.size))
 changing_terms T _ _ x b none_open h = ok_err b _ (sym h)
 changing_terms T _ _ x b (one_open a s m) h =
     ap Some (sym (terms_as a s m x.price x.size) ∙ ap (λ z. terms_told z (stored_price z x.price) (stored_size z x.size)) (changed_in a b x h))
 
-withdrawing_terms : (T : Type 0) (o : Option OpenAuction) (r : Option Story) (x : WithdrawRequest) (f : OpenAuction × Response) → Current o r → withdrawing_from o x ≡ Ok f
+withdrawing_terms : (T : Type 0) (o : Option OpenValues) (r : Option Story) (x : WithdrawRequest) (f : OpenValues × Response) → Current o r → withdrawing_from o x ≡ Ok f
     → terms_due {T = T} r (Withdraw x) ≡ Some (terms_told f.0 f.1.price f.1.size)
 withdrawing_terms T _ _ x f none_open h = ok_err f _ (sym h)
 withdrawing_terms T _ _ x f (one_open a s m) h =
     let y = withdrawn_from a f x h in
-    withdrawn_terms a s m x y.0 y.1 ∙ ap (λ (z : OpenAuction × Response). Some (terms_told z.0 z.1.price z.1.size)) y.2
+    withdrawn_terms a s m x y.0 y.1 ∙ ap (λ (z : OpenValues × Response). Some (terms_told z.0 z.1.price z.1.size)) y.2
 
 -- Whether a collecting is refused, by the tests one after another.
-collect_told : (a b c : Bool) (o : Option EndedAuction) → number_in (unless (refuse a 6 None) (unless (refuse b 42 (refuse c 41 None)) (waiting_now o)))
+collect_told : (a b c : Bool) (o : Option EndedValues) → number_in (unless (refuse a 6 None) (unless (refuse b 42 (refuse c 41 None)) (waiting_now o)))
     ≡ first_that_holds ((a, 6) ∷ ((b, 42) ∷ ((c, 41) ∷ ((not (is_some o), 42) ∷ []))))
 collect_told true b c o = refl
 collect_told false true c o = refl

@@ -1,16 +1,16 @@
 -- All the laws over runs, of a world that keeps its terms.
 use Rattle.std.proofs.Common.{ℕ, List}
 use Rattle.room.specs.World.{World, Terms}
-use Rattle.session.specs.declared.calls.Call.{Call}
+use Rattle.session.specs.declared.call.Call.{Call}
 use Rattle.session.specs.Laws.{RunLaws, LawsOfRun, LawsOfSession}
-use Rattle.session.specs.Sessions.{Session}
+use Rattle.session.specs.SessionState.{SessionState}
 use Rattle.session.proofs.Ending.Laws.{auctions_end_as_ruled}
 use Rattle.session.proofs.Learning.Alike.{alike_to_itself, alike_both_ways}
 use Rattle.session.proofs.Learning.Learned.{member_sees_the_same}
 use Rattle.session.proofs.Learning.LearnedInSessions.{member_sees_the_same_in_sessions}
 use Rattle.session.proofs.Looking.{looks_tell_the_history, rooms_hold_the_history}
 use Rattle.session.proofs.Reasons.{answers_have_their_reasons_in_runs}
-use Rattle.session.proofs.SessionRuns.{answers_of_moments}
+use Rattle.session.proofs.SessionState.{answers_of_moments}
 use Rattle.session.proofs.Sharing.{contracts_are_shared_lawfully}
 
 pub run_laws : {P T F Q : Type 0} (w : World P T F Q) → Terms w → RunLaws w
@@ -45,5 +45,5 @@ laws_of_run w terms number p q cs =
     }
 
 -- and of each session
-pub laws_of_session : {P T F Q : Type 0} (w : World P T F Q) (s : Session P Q) (cs : List (Call T)) → LawsOfSession w s cs
+pub laws_of_session : {P T F Q : Type 0} (w : World P T F Q) (s : SessionState P Q) (cs : List (Call T)) → LawsOfSession w s cs
 laws_of_session w s cs = record { answers = answers_of_moments w s cs; learning = λ u ds. member_sees_the_same_in_sessions w s u cs ds }

@@ -7,13 +7,13 @@ use Rattle.allocation.specs.declared.order.PairedOrder.{PairedOrder}
 use Rattle.allocation.specs.Auction.{told_of, auction_fills}
 use Rattle.allocation.specs.FillLaws.{Told}
 use Rattle.allocation.specs.OnlyRows.{LawfulRows}
-use Rattle.allocation.specs.Rankings.{by_key}
+use Rattle.allocation.specs.Ranking.{by_key}
 use Rattle.room.specs.declared.answers.ClaimNumbers.{ClaimNumbers}
 use Rattle.room.specs.Collecting.{CollectionTold, fill_rows}
-use Rattle.room.specs.State.{OpenAuction, EndedAuction, RoomState, new_room, numbered}
+use Rattle.room.specs.State.{OpenValues, EndedValues, RoomState, new_room, numbered}
 use Rattle.room.specs.World.{World, Terms}
-use Rattle.session.specs.declared.calls.Call.{Call}
-use Rattle.session.specs.declared.calls.Call.TheVariants.{Collect}
+use Rattle.session.specs.declared.call.Call.{Call}
+use Rattle.session.specs.declared.call.Call.TheVariants.{Collect}
 use Rattle.session.specs.History.{Story, guarantee_of, is_collected}
 use Rattle.session.specs.Runs.{Answer, Collected, Moment, moment, step}
 use Rattle.session.specs.Sharing.{SharedLawfully, CollectedLawfully, ContractsAreSharedLawfully}
@@ -27,7 +27,7 @@ use Rattle.room.proofs.Tests.{true_false}
 
 module _ {P T F Q : Type 0} (w : World P T F Q) (p : P) (q : Q) where
   -- a sound auction's fill list is lawful
-  sound_lawful : Terms w → (a : OpenAuction) (e : EndedAuction) → e.values ≡ a.values → Sound a.values → Apart a
+  sound_lawful : Terms w → (a : OpenValues) (e : EndedValues) → e.values ≡ a.values → Sound a.values → Apart a
       → LawfulRows a.values.order.side a.values.order.size a.values.floor a.values.order.guarantee a.values.initiating w.ahead (told_of a.values) (fill_rows w e)
   sound_lawful terms a e k h c =
       subst (λ (rows : List FillRow). LawfulRows a.values.order.side a.values.order.size a.values.floor a.values.order.guarantee a.values.initiating w.ahead (told_of a.values) rows) (ap (auction_fills (by_key w.ahead)) (sym k))
@@ -35,7 +35,7 @@ module _ {P T F Q : Type 0} (w : World P T F Q) (p : P) (q : Q) where
       (record { in_order = h.in_order; guaranteed_at = h.guaranteed_at; stop_at = h.stop_at; standing = h.standing; arrivals = c.arrivals; owns = c.owns }))
 
   -- and so it is of what its story tells
-  told_lawful : Terms w → (f : Story) (e : EndedAuction) (was : OpenAuction) → e.values ≡ was.values → Apart was → Matches f was
+  told_lawful : Terms w → (f : Story) (e : EndedValues) (was : OpenValues) → e.values ≡ was.values → Apart was → Matches f was
       → LawfulRows f.opening.order.side f.opening.order.size f.floor (guarantee_of f.opening) f.opening.range.initiating w.ahead f.stood (fill_rows w e)
   told_lawful terms f e was k c t =
       let v = was.values in

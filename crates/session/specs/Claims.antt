@@ -1,17 +1,17 @@
 -- The claims to the auctions that a room holds.
 use Rattle.std.specs.Prelude.{ℕ, List, [], ◌∷◌, ◌++◌, map, Some, None, Option}
 use Rattle.room.specs.declared.answers.ClaimNumbers.{ClaimNumbers}
-use Rattle.room.specs.declared.room.Room.{Room}
+use Rattle.room.specs.declared.Room.{Room}
 use Rattle.room.specs.Rooms.{state_of}
-use Rattle.room.specs.State.{OpenAuction, EndedAuction, RoomState}
+use Rattle.room.specs.State.{OpenValues, EndedValues, RoomState}
 
-abbrev pub number_of_open : Option OpenAuction → List ℕ
+abbrev pub number_of_open : Option OpenValues → List ℕ
 number_of_open None = []
 number_of_open (Some a) = a.number ∷ []
 
 -- The auctions that a room holds, by their numbers: those that wait, the oldest first, and the one that is open.
 abbrev pub auctions_held : {P Q : Type 0} → RoomState P Q → List ℕ
-auctions_held s = map (λ (e : EndedAuction). e.number) s.waiting ++ number_of_open s.current
+auctions_held s = map (λ (e : EndedValues). e.number) s.waiting ++ number_of_open s.current
 
 abbrev pub claim_to : ℕ → ℕ → ClaimNumbers
 claim_to room auction = record { room = room; auction = auction }

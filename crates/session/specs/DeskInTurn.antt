@@ -3,13 +3,13 @@ use Rattle.std.specs.Prelude.{◌≡◌, ℕ, List, [], ◌∷◌, ◌++◌, map
 use Rattle.room.specs.Rooms.{state_of}
 use Rattle.room.specs.State.{RoomState, new_room}
 use Rattle.room.specs.World.{World}
-use Rattle.session.specs.Closings.{with_close, ClosedByCalls}
-use Rattle.session.specs.declared.answers.Answer.{Answer}
-use Rattle.session.specs.declared.calls.Call.{Call}
+use Rattle.session.specs.Closed.{with_close, ClosedByCalls, ToldAtClose}
+use Rattle.session.specs.declared.answer.Answer.{Answer}
+use Rattle.session.specs.declared.call.Call.{Call}
 use Rattle.session.specs.declared.desk.Desk.{Desk}
-use Rattle.session.specs.Desks.{ToldAtClose, desk_after, desk_answer}
+use Rattle.session.specs.Desk.{desk_after, desk_answer}
 use Rattle.session.specs.Promises.{Carried, WholePromise}
-use Rattle.session.specs.Told.{told}
+use Rattle.session.specs.Answer.{told}
 
 -- A call at a desk: the desk before it and after it, and what it answered. (Where memory was wanting no call was made, and the
 -- desk is as it was.)

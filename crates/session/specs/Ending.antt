@@ -3,8 +3,8 @@
 use Rattle.std.specs.Prelude.{◌≡◌, ℕ, ◌+◌, ◌≤◌, Bool, true, false, cond, ◌&&◌, List, [], ◌∷◌, length, is_some, Some, None, Option, ◌==◌, nat_le}
 use Rattle.room.specs.State.{RoomState, numbered}
 use Rattle.room.specs.World.{World}
-use Rattle.session.specs.declared.calls.Call.{Call}
-use Rattle.session.specs.declared.calls.Call.TheVariants.{Collect}
+use Rattle.session.specs.declared.call.Call.{Call}
+use Rattle.session.specs.declared.call.Call.TheVariants.{Collect}
 use Rattle.session.specs.History.{Story, opened_number, is_collected, time_then, openings, waits_then, story_of, cause_at, cause_of}
 use Rattle.session.specs.Inputs.{input_reason}
 use Rattle.session.specs.Moments.{is_open, ends_at, ends_by_clock, times_ended, exchange_of, history_of, Throughout}

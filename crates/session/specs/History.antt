@@ -8,7 +8,7 @@ use Rattle.std.specs.Str.{byte}
 use Rattle.market.specs.declared.range.TurnedQuote.{TurnedQuote}
 use Rattle.market.specs.declared.side.Side.{Side}
 use Rattle.market.specs.Range.{RangePrices, turned_quote}
-use Rattle.market.specs.Turned.{turned}
+use Rattle.market.specs.Side.{turned}
 use Rattle.allocation.specs.declared.order.Guarantee.{Guarantee}
 use Rattle.allocation.specs.declared.order.GuaranteeKind.{GuaranteeKind}
 use Rattle.allocation.specs.declared.order.GuaranteeKind.TheVariants.{SingleStop, AutoMatchLimit}
@@ -21,8 +21,8 @@ use Rattle.room.specs.declared.answers.StoredTerms.{StoredTerms}
 use Rattle.room.specs.declared.answers.View.{View}
 use Rattle.room.specs.declared.requests.ResponseRequest.{ResponseRequest}
 use Rattle.room.specs.World.{World}
-use Rattle.session.specs.declared.calls.Call.{Call}
-use Rattle.session.specs.declared.calls.Call.TheVariants.{Open, Respond, Change, Withdraw, Tick, Halt, Resume, Collect}
+use Rattle.session.specs.declared.call.Call.{Call}
+use Rattle.session.specs.declared.call.Call.TheVariants.{Open, Respond, Change, Withdraw, Tick, Halt, Resume, Collect}
 use Rattle.session.specs.Inputs.{first_that_holds, input_reason}
 use Rattle.session.specs.Runs.{Answer, Opened, Stored, Accepted, Collected, given_time}
 

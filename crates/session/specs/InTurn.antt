@@ -1,14 +1,14 @@
 -- Calls of a room's methods, one after another from the room's making on, each as the contract of its method says, whoever makes
 -- them.
 use Rattle.std.specs.Prelude.{◌≡◌, ℕ, List, [], ◌∷◌, ◌++◌, length, map, take, drop, Ok, Err, Result}
-use Rattle.market.specs.Meaning.{told_by}
+use Rattle.market.specs.Market.{told_by}
 use Rattle.allocation.specs.declared.fill.FillRow.{FillRow}
 use Rattle.room.specs.declared.answers.ClaimNumbers.{ClaimNumbers}
 use Rattle.room.specs.declared.answers.Collection.{Collection}
 use Rattle.room.specs.declared.answers.View.{View}
 use Rattle.room.specs.declared.claim.Claim.{Claim}
 use Rattle.room.specs.declared.refusal.Refusal.{Refusal}
-use Rattle.room.specs.declared.room.Room.{Room}
+use Rattle.room.specs.declared.Room.{Room}
 use Rattle.room.specs.Collecting.{CollectionTold, collect_call, collect_rows}
 use Rattle.room.specs.Halts.{halt_call, resume_call, clock_call}
 use Rattle.room.specs.Looks.{look_call}
@@ -19,8 +19,8 @@ use Rattle.room.specs.Rooms.{claim_answer, claim_numbers, collected_answer, coll
 use Rattle.room.specs.State.{RoomState, new_room}
 use Rattle.room.specs.Ticks.{tick_call}
 use Rattle.room.specs.World.{World}
-use Rattle.session.specs.declared.calls.Call.{Call}
-use Rattle.session.specs.declared.calls.Call.TheVariants.{Open, Respond, Change, Withdraw, Tick, Halt, Resume, Clock, Look, Collect}
+use Rattle.session.specs.declared.call.Call.{Call}
+use Rattle.session.specs.declared.call.Call.TheVariants.{Open, Respond, Change, Withdraw, Tick, Halt, Resume, Clock, Look, Collect}
 use Rattle.session.specs.Laws.{LawsOfRun}
 use Rattle.session.specs.Runs.{Answer, Opened, Stored, Accepted, Looked, Collected, Refused, Moment, answered, clock_stepped, given_time, input_refusal, run}
 

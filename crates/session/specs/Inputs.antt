@@ -1,8 +1,8 @@
 -- The input checks of each call, said without the room's definitions, in their order. The law of reasons holds the answers to
 -- them.
 use Rattle.std.specs.Prelude.{ℕ, Bool, cond, ◌||◌, List, [], ◌∷◌, ℤ, pos, neg_ℤ, Some, None, Option, int_lt, nat_lt}
-use Rattle.session.specs.declared.calls.Call.{Call}
-use Rattle.session.specs.declared.calls.Call.TheVariants.{Open, Respond, Change, Withdraw, Tick, Halt, Resume, Clock, Look, Collect}
+use Rattle.session.specs.declared.call.Call.{Call}
+use Rattle.session.specs.declared.call.Call.TheVariants.{Open, Respond, Change, Withdraw, Tick, Halt, Resume, Clock, Look, Collect}
 
 -- The first of some whose test holds.
 abbrev pub first_that_holds : {X : Type 0} → List (Bool × X) → Option X

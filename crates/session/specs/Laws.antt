@@ -2,7 +2,7 @@
 use Rattle.std.specs.Prelude.{◌≡◌, ℕ, List, [], map}
 use Rattle.std.specs.Option.{option_map}
 use Rattle.room.specs.World.{World}
-use Rattle.session.specs.declared.calls.Call.{Call}
+use Rattle.session.specs.declared.call.Call.{Call}
 use Rattle.session.specs.Ending.{EndedWithinASecond, BusinessAfterTheClockStep, NotByTimeTooSoon, EndedNotVanished, EndedForItsCauses, AuctionsEndAsRuled}
 use Rattle.session.specs.Moments.{Throughout}
 use Rattle.session.specs.Looking.{LooksTellTheHistory, LooksTellTheHistoryInRuns, RoomHoldsTheHistory, RoomsHoldTheHistory}
@@ -10,7 +10,7 @@ use Rattle.session.specs.Learning.{AllAlike, AlikeToItself, AlikeBothWays, opens
 use Rattle.session.specs.Reasons.{AnswersHaveTheirReasons, AnswersHaveTheirReasonsInRuns}
 use Rattle.session.specs.Runs.{Moment, run}
 use Rattle.session.specs.SessionLearning.{ShownTheSame, MemberSeesTheSameInSessions, opens_if_made, ends_if_made}
-use Rattle.session.specs.Sessions.{Session, session_answers, session_moments}
+use Rattle.session.specs.SessionState.{SessionState, session_answers, session_moments}
 use Rattle.session.specs.Sharing.{CollectedLawfully, ContractsAreSharedLawfully}
 
 pub record RunLaws {P T F Q : Type 0} (w : World P T F Q) : Type 0 where
@@ -49,7 +49,7 @@ pub record LawsOfRun {P T F Q : Type 0} (w : World P T F Q) (number : ℕ) (p : 
   pub reasons : Throughout (AnswersHaveTheirReasons w number p q) [] (run w number p q cs)
 
 -- The laws of one session: of these calls from it on, with those that are not made.
-pub record LawsOfSession {P T F Q : Type 0} (w : World P T F Q) (s : Session P Q) (cs : List (Call T)) : Type 0 where
+pub record LawsOfSession {P T F Q : Type 0} (w : World P T F Q) (s : SessionState P Q) (cs : List (Call T)) : Type 0 where
   -- The answers are those of its moments, none where no call is made.
   pub answers : session_answers w s cs ≡ map (option_map (λ (m : Moment P T F Q). m.answer)) (session_moments w s cs)
   -- What a member may learn: against every other list of calls that is alike to the member, and in which openings are

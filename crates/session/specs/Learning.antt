@@ -6,10 +6,10 @@ use Rattle.allocation.specs.declared.response.Class.{Class}
 use Rattle.room.specs.declared.requests.ChangeRequest.{ChangeRequest}
 use Rattle.room.specs.declared.requests.OpeningRequest.{OpeningRequest}
 use Rattle.room.specs.declared.requests.ResponseRequest.{ResponseRequest}
-use Rattle.room.specs.State.{OpenAuction}
+use Rattle.room.specs.State.{OpenValues}
 use Rattle.room.specs.World.{World}
-use Rattle.session.specs.declared.calls.Call.{Call}
-use Rattle.session.specs.declared.calls.Call.TheVariants.{Open, Respond, Change, Withdraw, Look}
+use Rattle.session.specs.declared.call.Call.{Call}
+use Rattle.session.specs.declared.call.Call.TheVariants.{Open, Respond, Change, Withdraw, Look}
 use Rattle.session.specs.History.{opened_number}
 use Rattle.session.specs.Inputs.{beyond_prices, beyond_sizes}
 use Rattle.session.specs.Moments.{ends_at}
@@ -101,7 +101,7 @@ module _ {P T F Q : Type 0} where
   abbrev pub opens_here : Moment P T F Q → Bool
   opens_here m = is_some (opened_number m.answer)
 
-  abbrev pub ends_of : Option OpenAuction → Moment P T F Q → Bool
+  abbrev pub ends_of : Option OpenValues → Moment P T F Q → Bool
   ends_of None m = false
   ends_of (Some a) m = ends_at a.number m
 

@@ -1,8 +1,8 @@
 -- What looks tell, from the calls and the answers before them, and what a room holds that no look tells.
 use Rattle.std.specs.Prelude.{◌≡◌, ℕ, List, [], ◌∷◌, is_some}
 use Rattle.room.specs.World.{World}
-use Rattle.session.specs.declared.calls.Call.{Call}
-use Rattle.session.specs.declared.calls.Call.TheVariants.{Look}
+use Rattle.session.specs.declared.call.Call.{Call}
+use Rattle.session.specs.declared.call.Call.TheVariants.{Look}
 use Rattle.session.specs.History.{time_then, market_at, source_at, going_on, not_due, story_of, view_then}
 use Rattle.session.specs.Moments.{is_open, history_of, Throughout}
 use Rattle.session.specs.Runs.{Looked, Moment, step, run}

@@ -3,11 +3,11 @@ use Rattle.std.specs.Prelude.{◌≡◌, ℕ, List, [], map, Option}
 use Rattle.room.specs.declared.answers.ClaimNumbers.{ClaimNumbers}
 use Rattle.room.specs.State.{RoomState, new_room}
 use Rattle.room.specs.World.{World}
-use Rattle.session.specs.declared.calls.Call.{Call}
+use Rattle.session.specs.declared.call.Call.{Call}
 use Rattle.session.specs.Claims.{claims_to}
 use Rattle.session.specs.Laws.{LawsOfRun, LawsOfSession}
 use Rattle.session.specs.Runs.{Answer, Moment, run}
-use Rattle.session.specs.Sessions.{Session, session_of, session_answers, session_end, calls_made, given}
+use Rattle.session.specs.SessionState.{SessionState, session_of, session_answers, session_end, calls_made, given}
 
 -- What a room is made of, and the claims that are handed in beside it: its number, the positions of its market and its source,
 -- and the claims' numbers.
@@ -27,7 +27,7 @@ pub record Carried (P T F Q : Type 0) : Type 0 where
   pub claims : List ClaimNumbers
 
 -- The room at its making, with the claims that are handed in.
-abbrev pub at_first : {P Q : Type 0} → Start P Q → Session P Q
+abbrev pub at_first : {P Q : Type 0} → Start P Q → SessionState P Q
 at_first s = session_of (new_room s.number s.market s.source) s.purse
 
 -- What the model has of calls that were carried out.

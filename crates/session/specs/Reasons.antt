@@ -6,7 +6,7 @@ use Rattle.std.specs.Option.{option_map}
 use Rattle.market.specs.declared.range.TurnedQuote.{TurnedQuote}
 use Rattle.market.specs.declared.side.Side.{Side}
 use Rattle.market.specs.declared.side.Side.TheVariants.{Buy, Sell}
-use Rattle.market.specs.Turned.{turned}
+use Rattle.market.specs.Side.{turned}
 use Rattle.allocation.specs.declared.order.PairedOrder.{PairedOrder}
 use Rattle.allocation.specs.FillLaws.{Told}
 use Rattle.room.specs.declared.answers.ClaimNumbers.{ClaimNumbers}
@@ -15,8 +15,8 @@ use Rattle.room.specs.declared.requests.ChangeRequest.{ChangeRequest}
 use Rattle.room.specs.declared.requests.ResponseRequest.{ResponseRequest}
 use Rattle.room.specs.declared.requests.WithdrawRequest.{WithdrawRequest}
 use Rattle.room.specs.World.{World}
-use Rattle.session.specs.declared.calls.Call.{Call}
-use Rattle.session.specs.declared.calls.Call.TheVariants.{Open, Respond, Change, Withdraw, Tick, Halt, Resume, Clock, Look, Collect}
+use Rattle.session.specs.declared.call.Call.{Call}
+use Rattle.session.specs.declared.call.Call.TheVariants.{Open, Respond, Change, Withdraw, Tick, Halt, Resume, Clock, Look, Collect}
 use Rattle.session.specs.History.{Exchange, Story, is_above, is_below, is_plain_kind, is_own, going_on, not_due, clock_time, time_then, halted_then, openings, market_at, shown_to, story_of, open_story, waits_then, waiting_then}
 use Rattle.session.specs.Moments.{exchange_of, history_of, Throughout}
 use Rattle.session.specs.Inputs.{first_that_holds, input_reasons, input_reason}

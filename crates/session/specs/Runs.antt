@@ -15,8 +15,8 @@ use Rattle.room.specs.Responses.{respond_call, change_call, withdraw_call}
 use Rattle.room.specs.State.{RoomState, new_room}
 use Rattle.room.specs.Ticks.{tick_call}
 use Rattle.room.specs.World.{World}
-use Rattle.session.specs.declared.calls.Call.{Call}
-use Rattle.session.specs.declared.calls.Call.TheVariants.{Open, Respond, Change, Withdraw, Tick, Halt, Resume, Clock, Look, Collect}
+use Rattle.session.specs.declared.call.Call.{Call}
+use Rattle.session.specs.declared.call.Call.TheVariants.{Open, Respond, Change, Withdraw, Tick, Halt, Resume, Clock, Look, Collect}
 
 -- What a call is answered: an opening a claim; a response, a change and a withdrawal the stored price and size; a tick, a
 -- halt, a resume and a clock call only acceptance; a look what everybody may know; a collecting the row count, the letter of

@@ -2,10 +2,10 @@
 -- them.
 use Rattle.std.specs.Prelude.{◌≡◌, ℕ, Bool, false, List, map, is_some, Some, None, Option}
 use Rattle.room.specs.World.{World}
-use Rattle.session.specs.declared.calls.Call.{Call}
+use Rattle.session.specs.declared.call.Call.{Call}
 use Rattle.session.specs.Learning.{AllAlike, opens_here, ends_here, seen_by}
 use Rattle.session.specs.Runs.{Answer, Moment}
-use Rattle.session.specs.Sessions.{Session, session_moments}
+use Rattle.session.specs.SessionState.{SessionState, session_moments}
 
 module _ {P T F Q : Type 0} where
   -- Where no call is made, no opening is accepted, no auction ends, and the member is shown nothing.
@@ -31,7 +31,7 @@ module _ {P T F Q : Type 0} where
 -- are made at the same places.
 abbrev pub MemberSeesTheSameInSessions : {P T F Q : Type 0} → World P T F Q → Type 0
 MemberSeesTheSameInSessions {P} {T} {F} {Q} w =
-    (s : Session P Q) (u : ℕ) (cs ds : List (Call T)) → AllAlike u cs ds
+    (s : SessionState P Q) (u : ℕ) (cs ds : List (Call T)) → AllAlike u cs ds
     → map opens_if_made (session_moments w s cs) ≡ map opens_if_made (session_moments w s ds)
     → map ends_if_made (session_moments w s cs) ≡ map ends_if_made (session_moments w s ds)
     → ShownTheSame u (session_moments w s cs) (session_moments w s ds)

@@ -5,8 +5,8 @@ use Rattle.allocation.specs.declared.fill.FillRow.{FillRow}
 use Rattle.allocation.specs.OnlyRows.{LawfulRows}
 use Rattle.room.specs.Collecting.{CollectionTold}
 use Rattle.room.specs.World.{World}
-use Rattle.session.specs.declared.calls.Call.{Call}
-use Rattle.session.specs.declared.calls.Call.TheVariants.{Collect}
+use Rattle.session.specs.declared.call.Call.{Call}
+use Rattle.session.specs.declared.call.Call.TheVariants.{Collect}
 use Rattle.session.specs.History.{Story, story_of, guarantee_of}
 use Rattle.session.specs.Moments.{history_of, Throughout}
 use Rattle.session.specs.Runs.{Collected, Moment, run}

@@ -8,7 +8,7 @@ ghost use Rattle.session.specs.Promises.{ModelKeepsThePromise};
 
 use allocation::ranking::Ranking;
 use interval::source::IntervalSource;
-use market::market::Market;
+use market::Market;
 
 // Of every run of the model of a room over any market, source and ranking, and of what a member may learn in every session.
 pub fn run_laws_hold<M: Market, S: IntervalSource, R: Ranking>(ranking: &R)

@@ -14,7 +14,7 @@ pub(crate) struct RowLists {
 impl Model for RowLists {
     ghost use Rattle.std.specs.Prelude.{ℕ, vec_len};
     ghost use Rattle.std.specs.List.{All};
-    ghost use Rattle.session.specs.Memory.{TakesEveryRow};
+    ghost use Rattle.session.specs.Lists.{TakesEveryRow};
 
     ghost Value = { ℕ };
 

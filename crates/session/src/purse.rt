@@ -3,8 +3,7 @@ ghost use Rattle.std.specs.Prelude.{◌≡◌, ◌+◌, ◌-◌, ◌≤◌, [], 
 ghost use Rattle.std.specs.List.{insert};
 ghost use Rattle.std.specs.Option.{option_map};
 ghost use Rattle.room.specs.Rooms.{claim_numbers};
-ghost use Rattle.session.specs.Purses.{taken_numbers};
-ghost use Rattle.session.specs.Sessions.{same_claim, holds, without_claim};
+ghost use Rattle.session.specs.Purse.{taken_numbers, same_claim, holds, without_claim};
 
 use room::answers::ClaimNumbers;
 use room::claim::Claim;
@@ -19,7 +18,7 @@ pub(crate) struct Purse {
 impl Model for Purse {
     ghost use Rattle.std.specs.Prelude.{◌-◌, map, vec_len, vec_capacity};
     ghost use Rattle.room.specs.Rooms.{claim_numbers};
-    ghost use Rattle.session.specs.Purses.{PurseValue};
+    ghost use Rattle.session.specs.Purse.{PurseValue};
 
     ghost Value = { PurseValue };
 

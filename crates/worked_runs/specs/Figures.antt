@@ -7,7 +7,7 @@ use Rattle.market.specs.Cube.{CubePosition, cube_start}
 use Rattle.interval.specs.declared.fixed.FixedInterval.{FixedInterval}
 use Rattle.allocation.specs.declared.response.Class.TheVariants.{Other}
 use Rattle.allocation.specs.declared.response.Kind.TheVariants.{Sealed}
-use Rattle.room.specs.State.{OpenAuction}
+use Rattle.room.specs.State.{OpenValues}
 use Rattle.worked_runs.specs.Rooms.{CubeRoom, by_arrival, hundred, bought_and_sold, Goes, Day, room_after, room_after_in}
 use Rattle.worked_runs.specs.Script.{Line, ◌⇒◌, buys, sells, stop, auto_match, offers, leg_tick, book_tick, book_bids, clock, looks, collects, claim, stored, accepted, none_open, one_open, viewed, collected, row, contra_row, refused}
 
@@ -90,7 +90,7 @@ SellStopAt294AndNotAt293 =
 
 -- The guarantee's price that the open auction keeps, turned.
 abbrev pub kept_guarantee : CubeRoom FixedInterval → Option ℤ
-kept_guarantee s = option_map (λ (a : OpenAuction). a.values.order.guarantee.price) s.current
+kept_guarantee s = option_map (λ (a : OpenValues). a.values.order.guarantee.price) s.current
 
 -- An order to buy with a stop of 290, below the floor of 294.
 abbrev pub stop_290_run : List Line

@@ -4,8 +4,8 @@
 use Rattle.std.specs.Prelude.{◌≡◌, ℕ, true, List, [], ◌∷◌, drop, ℤ, pos, neg_ℤ, Some}
 use Rattle.std.specs.Str.{byte}
 use Rattle.market.specs.declared.better_of.Half.{Half}
-use Rattle.market.specs.Faults.{FaultTold}
-use Rattle.market.specs.declared.legs.leg.LegTick.{LegTick}
+use Rattle.market.specs.Fault.{FaultTold}
+use Rattle.market.specs.declared.leg.LegTick.{LegTick}
 use Rattle.market.specs.declared.quote.Quote.{Quote}
 use Rattle.market.specs.declared.side.Side.TheVariants.{Buy, Sell}
 use Rattle.interval.specs.declared.fixed.FixedInterval.{FixedInterval}

@@ -9,7 +9,7 @@ use Rattle.room.specs.State.{new_room}
 use Rattle.session.specs.Learning.{AllAlike, opens_here, ends_here, seen_by}
 use Rattle.session.specs.Runs.{run}
 use Rattle.session.specs.SessionLearning.{opens_if_made, ends_if_made, seen_if_made}
-use Rattle.session.specs.Sessions.{session_of, session_moments}
+use Rattle.session.specs.SessionState.{session_of, session_moments}
 use Rattle.worked_runs.specs.Rooms.{CubeMoment, by_arrival, hundred, unquoted_market, day_calls, Day}
 use Rattle.worked_runs.specs.Script.{CubeCall, CubeAnswer, Line, ◌⇒◌, this_room, buys, stop, auto_match, offers, changes, book_tick, clock, looks, collects, claim, stored, accepted, none_open, one_open, viewed, collected, row, contra_row, refused}
 

@@ -6,8 +6,8 @@ use Rattle.market.specs.declared.side.Side.TheVariants.{Buy, Sell}
 use Rattle.interval.specs.declared.fixed.FixedInterval.{FixedInterval}
 use Rattle.allocation.specs.declared.response.Class.TheVariants.{Other}
 use Rattle.allocation.specs.declared.response.Kind.TheVariants.{Sealed, Plain}
-use Rattle.room.specs.State.{OpenAuction}
-use Rattle.session.specs.declared.calls.Call.TheVariants.{Respond}
+use Rattle.room.specs.State.{OpenValues}
+use Rattle.session.specs.declared.call.Call.TheVariants.{Respond}
 use Rattle.session.specs.Runs.{step, run_from}
 use Rattle.worked_runs.specs.Rooms.{CubeRoom, by_arrival, by_steps, hundred, unquoted_market, first_quotes, answers_of, Goes, Day, room_after, room_after_in}
 use Rattle.worked_runs.specs.Script.{◌⇒◌, opens, buys, sells, stop, offers, bids, changes, withdraws, leg_tick, book_tick, book_bids, book_offers, halts, resumes, clock, looks, collects, collects_with, claim, stored, accepted, none_open, none_open_halted, one_open, viewed, collected, contra_row, refused, book_fault, leg_fault, this_room}
@@ -316,7 +316,7 @@ OpeningsUsedUp =
     × ((step by_arrival (room_with_opened 1000000) (buys 10000 100 310 (stop 305))).1 ≡ refused 16)
 
 -- An auction in which member 2 has used up so many responses and changes, and one of them stands, sealed.
-abbrev pub auction_with_used : ℕ → OpenAuction
+abbrev pub auction_with_used : ℕ → OpenValues
 auction_with_used n = record {
   number = 1;
   deadline = 10100;

@@ -2,17 +2,17 @@
 use Rattle.std.specs.Prelude.{◌≡◌, ℕ, List, [], ◌∷◌, ◌++◌, map}
 use Rattle.std.proofs.Common.{lit≤}
 use Rattle.market.specs.declared.better_of.Half.{Half}
-use Rattle.market.specs.declared.legs.leg.Leg.{Leg}
-use Rattle.market.specs.declared.legs.leg.LegTick.{LegTick}
+use Rattle.market.specs.declared.leg.Leg.{Leg}
+use Rattle.market.specs.declared.leg.LegTick.{LegTick}
 use Rattle.market.specs.declared.quote.Quote.{Quote}
 use Rattle.market.specs.declared.side.Side.TheVariants.{Buy, Sell}
-use Rattle.market.specs.Faults.{FaultTold}
+use Rattle.market.specs.Fault.{FaultTold}
 use Rattle.market.specs.Cube.{CubePosition, cube_start, cube_meaning}
-use Rattle.market.specs.Legs.{unquoted}
+use Rattle.market.specs.Leg.{new_leg}
 use Rattle.interval.specs.declared.fixed.FixedInterval.{FixedInterval}
 use Rattle.interval.specs.Fixed.{fixed_meaning}
 use Rattle.interval.specs.Stepping.{stepping_meaning}
-use Rattle.allocation.specs.Rankings.{earlier, larger}
+use Rattle.allocation.specs.Ranking.{earlier, larger}
 use Rattle.room.specs.State.{RoomState, new_room}
 use Rattle.room.specs.World.{World}
 use Rattle.session.specs.Runs.{Moment, run}
@@ -46,7 +46,7 @@ hundred = record { length = 100; least = lit≤ tt; most = lit≤ tt }
 
 -- Two legs that are not yet quoted: one bought at this ratio, one sold at that.
 abbrev pub bought_and_sold : ℕ → ℕ → List Leg
-bought_and_sold m n = unquoted (record { side = Buy; ratio = m }) ∷ unquoted (record { side = Sell; ratio = n }) ∷ []
+bought_and_sold m n = new_leg (record { side = Buy; ratio = m }) ∷ new_leg (record { side = Sell; ratio = n }) ∷ []
 
 -- The market of most runs: buy 1, sell 2, not yet quoted.
 abbrev pub unquoted_market : CubePosition

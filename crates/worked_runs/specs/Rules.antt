@@ -4,20 +4,20 @@ use Rattle.std.specs.Str.{byte}
 use Rattle.std.specs.Option.{option_map}
 use Rattle.market.specs.declared.side.Side.TheVariants.{Buy, Sell}
 use Rattle.market.specs.Cube.{CubePosition}
-use Rattle.market.specs.Meaning.{nothing_shown}
+use Rattle.market.specs.Market.{nothing_shown}
 use Rattle.interval.specs.declared.fixed.FixedInterval.{FixedInterval}
 use Rattle.allocation.specs.declared.response.Class.TheVariants.{Customer, Other}
 use Rattle.allocation.specs.declared.response.Kind.TheVariants.{Sealed, Plain}
-use Rattle.room.specs.State.{OpenAuction, EndedAuction}
+use Rattle.room.specs.State.{OpenValues, EndedValues}
 use Rattle.worked_runs.specs.Rooms.{CubeRoom, by_arrival, hundred, unquoted_market, Goes, Day, room_after}
 use Rattle.worked_runs.specs.Script.{Line, ◌⇒◌, buys, sells, stop, auto_match, offers, changes, withdraws, book_tick, book_bids, book_empties, halts, resumes, clock, looks, collects, claim, stored, accepted, none_open, one_open, viewed, collected, row, contra_row, refused}
 
 -- The floor of the open auction, turned, and the floors of those that wait, the oldest first.
 abbrev pub open_floor : CubeRoom FixedInterval → Option ℤ
-open_floor s = option_map (λ (a : OpenAuction). a.values.floor) s.current
+open_floor s = option_map (λ (a : OpenValues). a.values.floor) s.current
 
 abbrev pub waiting_floors : CubeRoom FixedInterval → List ℤ
-waiting_floors s = map (λ (e : EndedAuction). e.values.floor) s.waiting
+waiting_floors s = map (λ (e : EndedValues). e.values.floor) s.waiting
 
 -- An order to buy, and a response at 296; the book bids 295, which ends nothing, and then as here.
 abbrev pub floor_run : ℕ → List Line

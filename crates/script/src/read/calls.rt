@@ -13,12 +13,12 @@ use allocation::order::{Guarantee, GuaranteeKind, PairedOrder};
 use allocation::response::{Class, Kind};
 use market::better_of::Half;
 use market::cube::CubeTick;
-use market::legs::leg::{LegQuote, LegTick};
+use market::leg::{LegQuote, LegTick};
 use market::quote::Quote;
 use market::side::Side;
 use room::answers::ClaimNumbers;
 use room::requests::{ChangeRequest, OpeningRequest, ResponseRequest, WithdrawRequest};
-use session::calls::Call;
+use session::call::Call;
 
 impl<'a> Words<'a> {
     fn time(&mut self) -> Result<u64, Misread>

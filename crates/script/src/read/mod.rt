@@ -7,7 +7,7 @@ use crate::misread::{Expected, Misread};
 use crate::statement::{RangeQuestion, Statement};
 use crate::words::Words;
 use market::side::Side;
-use session::calls::Call;
+use session::call::Call;
 
 mod calls;
 mod named;

@@ -1,6 +1,6 @@
 // The parts of statements: numbers, prices, and words that are one of a few.
 ghost use Rattle.std.specs.Prelude.{◌≡◌, ◌≤◌, IfOk};
-ghost use Rattle.script.specs.Readers.{read_as, with_rest, a_word, number_told, number_up_to, a_number, optional_number, a_price, one_of};
+ghost use Rattle.script.specs.Readers.{read_as, with_rest, a_word, unsigned_number, number_up_to, a_number, optional_number, a_price, one_of};
 ghost use Rattle.script.specs.Parts.{at_named, book_price_named};
 ghost use Rattle.script.specs.declared.misread.Expected.TheVariants as expected;
 
@@ -20,8 +20,8 @@ fn book_price_named(word: &str) -> Option<Option<i64>>
 }
 
 // A number with no minus. One above the most is taken as the most.
-fn number_told(word: &str, most: u64, what: Expected) -> Result<u64, Misread>
-    ensures value { result ≡ number_told most what word.now }
+fn unsigned_number(word: &str, most: u64, what: Expected) -> Result<u64, Misread>
+    ensures value { result ≡ unsigned_number most what word.now }
     ensures bound { IfOk result (λ n. n ≤ most) }
 {
     if word.starts_with('-') {
@@ -42,7 +42,7 @@ impl<'a> Words<'a> {
         ensures value { with_rest result self.new ≡ number_up_to most what self.old }
         ensures bound { IfOk result (λ n. n ≤ most) }
     {
-        number_told(self.word(what)?, most, what)
+        unsigned_number(self.word(what)?, most, what)
     }
 
     pub(crate) fn u64(&mut self, what: Expected) -> Result<u64, Misread>
@@ -69,7 +69,7 @@ impl<'a> Words<'a> {
     {
         match self.next() {
             None => Ok(otherwise),
-            Some(word) => number_told(word, u64::MAX, what),
+            Some(word) => unsigned_number(word, u64::MAX, what),
         }
     }
 

@@ -8,7 +8,7 @@ use crate::chosen::ChosenRanking;
 use crate::misread::{Expected, Misread};
 use crate::statement::{IntervalTerms, Setting, Statement};
 use crate::words::Words;
-use market::legs::leg::LegTerms;
+use market::leg::LegTerms;
 use market::side::Side;
 
 impl<'a> Words<'a> {

@@ -1,17 +1,20 @@
 // Setting up: what a script tells before its first call, and the room that is made of it then.
 ghost use Rattle.std.specs.Prelude.{◌≡◌};
-ghost use Rattle.market.specs.Meaning.{told_by};
-ghost use Rattle.script.specs.SettingRefusals.{failure_told};
-ghost use Rattle.script.specs.Setups.{told_of, nothing_told, room_result, setting_answer, told_after, room_in, room_number, told_after_call};
+ghost use Rattle.market.specs.Market.{told_by};
+ghost use Rattle.script.specs.SettingRefusal.{failure_told};
+ghost use Rattle.script.specs.Setup.{settings_of, no_settings, room_result, setting_answer, settings_after, room_in, room_number, settings_after_call};
 
-pub mod failure;
 mod legs;
+pub mod refusal;
+pub mod room_terms;
+pub mod wanting;
 
 use crate::chosen::{ChosenInterval, ChosenRanking};
 use crate::statement::Setting;
-use failure::{SettingFailure, Wanting};
 use legs::LegsSoFar;
-use market::legs::Legs;
+use refusal::SettingFailure;
+use room_terms::RoomTerms;
+use wanting::Wanting;
 
 // What was told so far, and whether the room is made of it.
 #[derive(Clone, Copy)]
@@ -23,19 +26,10 @@ pub struct Setup {
     made: bool,
 }
 
-// What a room is made of.
-#[derive(Clone, Copy)]
-pub struct RoomTerms {
-    pub number: u32,
-    pub legs: Legs,
-    pub ranking: ChosenRanking,
-    pub source: ChosenInterval,
-}
-
 impl Setup {
     // Nothing is told yet.
     pub fn new() -> Setup
-        ensures { told_of result ≡ nothing_told }
+        ensures { settings_of result ≡ no_settings }
     {
         Setup {
             number: None,
@@ -48,8 +42,8 @@ impl Setup {
 
     // Takes a setting. A refused one, and one that comes when the room is made, leaves what was told.
     pub fn set(&mut self, setting: Setting) -> Result<(), SettingFailure>
-        ensures answer { told_by failure_told result ≡ setting_answer (told_of self.old) setting }
-        ensures after { told_of self.new ≡ told_after (told_of self.old) setting }
+        ensures answer { told_by failure_told result ≡ setting_answer (settings_of self.old) setting }
+        ensures after { settings_of self.new ≡ settings_after (settings_of self.old) setting }
     {
         if self.made {
             return Err(SettingFailure::AfterFirstCall);
@@ -65,13 +59,13 @@ impl Setup {
 
     /// The number of the script's room: 0 where none is told yet, for then no call is made.
     pub fn room_number(&self) -> u32
-        ensures { result ≡ room_number (told_of self.now) }
+        ensures { result ≡ room_number (settings_of self.now) }
     {
         self.number.unwrap_or(0)
     }
 
     fn terms(&self) -> Result<RoomTerms, Wanting>
-        ensures { room_result result ≡ room_in (told_of self.now) }
+        ensures { room_result result ≡ room_in (settings_of self.now) }
     {
         let number = self.number.ok_or(Wanting::Number)?;
         let legs = self.legs.strategy().ok_or(Wanting::Legs)?;
@@ -87,8 +81,8 @@ impl Setup {
 
     // What the room is made of, for a call on it or a question to its market: at the first, the room is made.
     pub fn room(&mut self) -> Result<RoomTerms, Wanting>
-        ensures answer { room_result result ≡ room_in (told_of self.old) }
-        ensures after { told_of self.new ≡ told_after_call (told_of self.old) }
+        ensures answer { room_result result ≡ room_in (settings_of self.old) }
+        ensures after { settings_of self.new ≡ settings_after_call (settings_of self.old) }
     {
         let terms = self.terms()?;
         self.made = true;

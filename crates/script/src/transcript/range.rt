@@ -1,8 +1,8 @@
 // The text of a permitted range.
 ghost use Rattle.std.specs.Prelude.{◌≡◌, Some};
 ghost use Rattle.market.specs.Range.{range_prices};
-ghost use Rattle.script.specs.Ranges.{range_told};
-ghost use Rattle.script.specs.Texts.{span_text, range_text};
+ghost use Rattle.script.specs.Range.{range_told};
+ghost use Rattle.script.specs.Answer.{span_text, range_text};
 
 use market::range::PermittedRange;
 use std::fmt;

@@ -1,6 +1,6 @@
 // The text of a fill list.
 ghost use Rattle.std.specs.Prelude.{Some, ◌≡◌};
-ghost use Rattle.script.specs.Texts.{kind_text, party_text, row_text, rows_text};
+ghost use Rattle.script.specs.Answer.{kind_text, party_text, row_text, rows_text};
 
 use allocation::fill::FillRow;
 use allocation::response::Kind;

@@ -13,12 +13,12 @@ use Rattle.room.specs.declared.requests.ResponseRequest.{ResponseRequest}
 use Rattle.room.specs.declared.requests.WithdrawRequest.{WithdrawRequest}
 use Rattle.room.specs.Counts.{all_arrived}
 use Rattle.room.specs.Responses.{as_stored, stored_price, stored_size, with_response, with_change, with_withdrawal}
-use Rattle.room.specs.State.{OpenAuction}
+use Rattle.room.specs.State.{OpenValues}
 use Rattle.room.proofs.Counting.{next_is_free, arrived_next}
 use Rattle.room.proofs.Sound.{each_push, each_rewritten, each_without}
 use Rattle.room.proofs.Tests.{both_true, left_true, right_true}
 
-pub record Apart (a : OpenAuction) : Type 0 where
+pub record Apart (a : OpenValues) : Type 0 where
   -- arrivals were given before
   pub arrived : all_arrived a.arrivals a.values.stood ≡ true
   pub arrivals : arrivals_apart a.values.stood ≡ true
@@ -83,7 +83,7 @@ module _ (m o : ℕ) where
 itself : (n : ℕ) → leb n n ≡ true
 itself n = grind (arith, nat_tests)
 
-pub apart_response : (a : OpenAuction) (x : ResponseRequest) → is_some (own_response x.member x.own a.values.stood) ≡ false → Apart a → Apart (with_response a x)
+pub apart_response : (a : OpenValues) (x : ResponseRequest) → is_some (own_response x.member x.own a.values.stood) ≡ false → Apart a → Apart (with_response a x)
 apart_response a x h k =
     let xs = a.values.stood in
     record {
@@ -92,7 +92,7 @@ apart_response a x h k =
       owns = owns_push xs (as_stored a x) k.owns (sym (free_stands x.member x.own xs) ∙ ap not h);
     }
 
-pub apart_change : (a : OpenAuction) (x : ChangeRequest) → Apart a → Apart (with_change a x)
+pub apart_change : (a : OpenValues) (x : ChangeRequest) → Apart a → Apart (with_change a x)
 apart_change a x k =
     let xs = a.values.stood in
     record {
@@ -101,7 +101,7 @@ apart_change a x k =
       owns = owns_changed x.member x.own (stored_size a x.size) (stored_price a x.price) (a.arrivals + 1) xs k.owns;
     }
 
-pub apart_withdrawal : (a : OpenAuction) (x : WithdrawRequest) → Apart a → Apart (with_withdrawal a x)
+pub apart_withdrawal : (a : OpenValues) (x : WithdrawRequest) → Apart a → Apart (with_withdrawal a x)
 apart_withdrawal a x k =
     let xs = a.values.stood in
     record {

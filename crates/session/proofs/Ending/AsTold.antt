@@ -1,7 +1,7 @@
 -- What holds at every moment of a run makes the room and its history one: the room holds what the history tells.
 use Rattle.std.proofs.Common.{◌≡◌, ℕ, ◌≤◌, Bool, true, false, cond, List, is_some, Some, None, Option, sym, refl, ap, ◌∙◌, subst}
 use Rattle.interval.specs.Source.{WithinLimits}
-use Rattle.room.specs.State.{OpenAuction, RoomState, is_number, numbered}
+use Rattle.room.specs.State.{OpenValues, RoomState, is_number, numbered}
 use Rattle.room.specs.World.{World}
 use Rattle.session.specs.History.{Story, openings, going_on, story_of}
 use Rattle.session.specs.Moments.{is_open, history_of}
@@ -16,7 +16,7 @@ use Rattle.room.proofs.Tests.{true_false}
 
 module _ {P T F Q : Type 0} (w : World P T F Q) (p : P) (q : Q) (n : ℕ) (past : List (Moment P T F Q)) (s : RoomState P Q) where
   -- an auction is open as long as its story goes on
-  pub alive_goes_on : (a : OpenAuction) (live : Alive w p q n past a) → going_on (story_of w p q n (history_of past)) ≡ Some live.story
+  pub alive_goes_on : (a : OpenValues) (live : Alive w p q n past a) → going_on (story_of w p q n (history_of past)) ≡ Some live.story
   alive_goes_on a live = ap going_on live.is_its_story ∙ ap (λ (b : Bool). cond b None (Some live.story)) (ap is_some live.goes_on)
 
   pub over_stops : (f : Story) → story_of w p q n (history_of past) ≡ Some f → is_some f.ended ≡ true → going_on (story_of w p q n (history_of past)) ≡ None
@@ -42,10 +42,10 @@ module _ {P T F Q : Type 0} (w : World P T F Q) (p : P) (q : Q) (n : ℕ) (past 
   numbers_by (gone z x o g) h = true_false (sym h ∙ ap is_some z)
 
   -- the open auction and the story that goes on
-  current_is : (a : OpenAuction) → s.current ≡ Some a → is_open n s ≡ true → Life w p q n past s → Current s.current (going_on (story_of w p q n (history_of past)))
+  current_is : (a : OpenValues) → s.current ≡ Some a → is_open n s ≡ true → Life w p q n past s → Current s.current (going_on (story_of w p q n (history_of past)))
   current_is a c k (unborn o x z te wc up) = true_false (sym k ∙ x)
   current_is a c k (alive b e i z o live) =
-      subst (λ (v : Option OpenAuction). Current v (going_on (story_of w p q n (history_of past)))) (sym e) (subst (Current (Some b)) (sym (alive_goes_on b live)) (one_open b live.story live.matches))
+      subst (λ (v : Option OpenValues). Current v (going_on (story_of w p q n (history_of past)))) (sym e) (subst (Current (Some b)) (sym (alive_goes_on b live)) (one_open b live.story live.matches))
   current_is a c k (waiting e z once x o over) = true_false (sym k ∙ x)
   current_is a c k (gone z x o g) = true_false (sym k ∙ x)
 
@@ -53,10 +53,10 @@ module _ {P T F Q : Type 0} (w : World P T F Q) (p : P) (q : Q) (n : ℕ) (past 
   no_story_goes_on None h = refl
   no_story_goes_on (Some f) h = true_false h
 
-  current_by : (v : Option OpenAuction) → s.current ≡ v → is_number n v ≡ is_some v → Life w p q n past s → Current s.current (going_on (story_of w p q n (history_of past)))
+  current_by : (v : Option OpenValues) → s.current ≡ v → is_number n v ≡ is_some v → Life w p q n past s → Current s.current (going_on (story_of w p q n (history_of past)))
   current_by None e h life =
       let none = no_story_goes_on (going_on (story_of w p q n (history_of past))) (sym (open_by life) ∙ ap (is_number n) e) in
-      subst (λ (v : Option OpenAuction). Current v (going_on (story_of w p q n (history_of past)))) (sym e) (subst (Current None) (sym none) none_open)
+      subst (λ (v : Option OpenValues). Current v (going_on (story_of w p q n (history_of past)))) (sym e) (subst (Current None) (sym none) none_open)
   current_by (Some a) e h life = current_is a e (ap (is_number n) e ∙ h) life
 
 module _ {P T F Q : Type 0} (w : World P T F Q) (drawn : WithinLimits w.source) (number : ℕ) (p : P) (q : Q) where

@@ -10,10 +10,10 @@ use Rattle.interval.specs.Source.{WithinLimits}
 use Rattle.allocation.specs.declared.order.PairedOrder.{PairedOrder}
 use Rattle.room.specs.Clock.{due}
 use Rattle.room.specs.Openings.{opened_with}
-use Rattle.room.specs.State.{OpenAuction, EndedAuction, RoomState, at_position, with_halted, with_current, with_waiting, ended, closed, is_number, without_number}
+use Rattle.room.specs.State.{OpenValues, EndedValues, RoomState, at_position, with_halted, with_current, with_waiting, ended, closed, is_number, without_number}
 use Rattle.room.specs.Ticks.{tick_cause, ticked_for, ticked, at_floor, floor_now}
 use Rattle.room.specs.World.{World}
-use Rattle.session.specs.declared.calls.Call.{Call}
+use Rattle.session.specs.declared.call.Call.{Call}
 use Rattle.session.specs.Ending.{held_in}
 use Rattle.session.specs.History.{opened_number, is_accepted, is_collected, halted_by, tick_in, plain_below, position_then}
 use Rattle.session.specs.Runs.{Answer, Moment}
@@ -24,7 +24,7 @@ use Rattle.session.proofs.Ending.Waiting.{closed_length, without_length}
 use Rattle.std.specs.Str.{byte}
 
 -- an auction that ends is held as before, among those that wait
-closed_held : (c : ℕ) (o : Option OpenAuction) (es : List EndedAuction) → length (closed c o es) + 0 ≡ length es + cond (is_some o) 1 0
+closed_held : (c : ℕ) (o : Option OpenValues) (es : List EndedValues) → length (closed c o es) + 0 ≡ length es + cond (is_some o) 1 0
 closed_held c None es = refl
 closed_held c (Some a) es = let more = closed_length c a es in omega arith
 
@@ -44,42 +44,42 @@ module _ {P Q : Type 0} where
   stepped_held s u (expired t a c l e) = ap (λ (z : RoomState P Q). held_in z) e ∙ closed_held (byte "T") s.current s.waiting
 
   -- the same room with its open auction changed, not in number or deadline
-  current_held : (s : RoomState P Q) (a b : OpenAuction) → s.current ≡ Some a → b.deadline ≡ a.deadline → due s.time s.current ≡ false → HoldsAsMany s (with_current b s)
+  current_held : (s : RoomState P Q) (a b : OpenValues) → s.current ≡ Some a → b.deadline ≡ a.deadline → due s.time s.current ≡ false → HoldsAsMany s (with_current b s)
   current_held s a b e d h = record {
-    as_many = ap (λ (o : Option OpenAuction). length s.waiting + cond (is_some o) 1 0) (sym e);
+    as_many = ap (λ (o : Option OpenValues). length s.waiting + cond (is_some o) 1 0) (sym e);
     none_due = ap (λ k. leb k s.time) d ∙ sym (ap (due s.time) e) ∙ h;
     same_opened = refl;
     same_source = refl;
   }
 
-  responded_held : (l : Bool) (s : RoomState P Q) (a b : OpenAuction) → s.current ≡ Some a → b.deadline ≡ a.deadline → due s.time s.current ≡ false → HoldsAsMany s (cond l (ended (byte "E") (with_current b s)) (with_current b s))
+  responded_held : (l : Bool) (s : RoomState P Q) (a b : OpenValues) → s.current ≡ Some a → b.deadline ≡ a.deadline → due s.time s.current ≡ false → HoldsAsMany s (cond l (ended (byte "E") (with_current b s)) (with_current b s))
   responded_held true s a b e d h = record {
-    as_many = closed_held (byte "E") (Some b) s.waiting ∙ ap (λ (o : Option OpenAuction). length s.waiting + cond (is_some o) 1 0) (sym e);
+    as_many = closed_held (byte "E") (Some b) s.waiting ∙ ap (λ (o : Option OpenValues). length s.waiting + cond (is_some o) 1 0) (sym e);
     none_due = refl;
     same_opened = refl;
     same_source = refl;
   }
   responded_held false s a b e d h = current_held s a b e d h
 
-  ticked_for_held : (c : Option ℕ) (q : TurnedQuote) (s : RoomState P Q) (a : OpenAuction) → s.current ≡ Some a → due s.time s.current ≡ false → HoldsAsMany s (ticked_for c q s a)
+  ticked_for_held : (c : Option ℕ) (q : TurnedQuote) (s : RoomState P Q) (a : OpenValues) → s.current ≡ Some a → due s.time s.current ≡ false → HoldsAsMany s (ticked_for c q s a)
   ticked_for_held (Some c) q s a e h = ended_held c s
   ticked_for_held None q s a e h = current_held s a (at_floor (floor_now q.floor a.values.floor) a) e refl h
 
-  ticked_held : (o : Option OpenAuction) (q : Quote) (s : RoomState P Q) → s.current ≡ o → due s.time s.current ≡ false → HoldsAsMany s (ticked o q s)
+  ticked_held : (o : Option OpenValues) (q : Quote) (s : RoomState P Q) → s.current ≡ o → due s.time s.current ≡ false → HoldsAsMany s (ticked o q s)
   ticked_held None q s e h = record { as_many = refl; none_due = h; same_opened = refl; same_source = refl }
   ticked_held (Some a) q s e h = ticked_for_held (tick_cause a.values (turned_quote a.values.order.side q)) (turned_quote a.values.order.side q) s a e h
 
   -- what neither an end nor a new current auction changes
-  module _ {X : Type 0} (f : RoomState P Q → X) (ends : (c : ℕ) (s : RoomState P Q) → f (ended c s) ≡ f s) (holds : (a : OpenAuction) (s : RoomState P Q) → f (with_current a s) ≡ f s) where
-    ticked_for_keeps : (c : Option ℕ) (q : TurnedQuote) (s : RoomState P Q) (a : OpenAuction) → f (ticked_for c q s a) ≡ f s
+  module _ {X : Type 0} (f : RoomState P Q → X) (ends : (c : ℕ) (s : RoomState P Q) → f (ended c s) ≡ f s) (holds : (a : OpenValues) (s : RoomState P Q) → f (with_current a s) ≡ f s) where
+    ticked_for_keeps : (c : Option ℕ) (q : TurnedQuote) (s : RoomState P Q) (a : OpenValues) → f (ticked_for c q s a) ≡ f s
     ticked_for_keeps (Some c) q s a = ends c s
     ticked_for_keeps None q s a = holds (at_floor (floor_now q.floor a.values.floor) a) s
 
-    ticked_keeps : (o : Option OpenAuction) (q : Quote) (s : RoomState P Q) → f (ticked o q s) ≡ f s
+    ticked_keeps : (o : Option OpenValues) (q : Quote) (s : RoomState P Q) → f (ticked o q s) ≡ f s
     ticked_keeps None q s = refl
     ticked_keeps (Some a) q s = ticked_for_keeps (tick_cause a.values (turned_quote a.values.order.side q)) (turned_quote a.values.order.side q) s a
 
-    responded_keeps : (l : Bool) (s : RoomState P Q) (b : OpenAuction) → f (cond l (ended (byte "E") (with_current b s)) (with_current b s)) ≡ f s
+    responded_keeps : (l : Bool) (s : RoomState P Q) (b : OpenValues) → f (cond l (ended (byte "E") (with_current b s)) (with_current b s)) ≡ f s
     responded_keeps true s b = ends (byte "E") (with_current b s) ∙ holds b s
     responded_keeps false s b = holds b s
 
@@ -91,18 +91,18 @@ module _ {P Q : Type 0} where
   stepped_last s u (kept t e d) h = subst (λ (z : RoomState P Q). IsTheLast z) (sym e) h
   stepped_last s u (expired t a c d e) h = subst (λ (z : RoomState P Q). IsTheLast z) (sym e) refl
 
-  current_last : (s : RoomState P Q) (a b : OpenAuction) → s.current ≡ Some a → b.number ≡ a.number → IsTheLast s → IsTheLast (with_current b s)
+  current_last : (s : RoomState P Q) (a b : OpenValues) → s.current ≡ Some a → b.number ≡ a.number → IsTheLast s → IsTheLast (with_current b s)
   current_last s a b e k h = ap (λ n. eqb n s.opened) k ∙ sym (ap (is_number s.opened) e) ∙ h ∙ ap is_some e
 
-  responded_last : (l : Bool) (s : RoomState P Q) (a b : OpenAuction) → s.current ≡ Some a → b.number ≡ a.number → IsTheLast s → IsTheLast (cond l (ended (byte "E") (with_current b s)) (with_current b s))
+  responded_last : (l : Bool) (s : RoomState P Q) (a b : OpenValues) → s.current ≡ Some a → b.number ≡ a.number → IsTheLast s → IsTheLast (cond l (ended (byte "E") (with_current b s)) (with_current b s))
   responded_last true s a b e k h = refl
   responded_last false s a b e k h = current_last s a b e k h
 
-  ticked_for_last : (c : Option ℕ) (q : TurnedQuote) (s : RoomState P Q) (a : OpenAuction) → s.current ≡ Some a → IsTheLast s → IsTheLast (ticked_for c q s a)
+  ticked_for_last : (c : Option ℕ) (q : TurnedQuote) (s : RoomState P Q) (a : OpenValues) → s.current ≡ Some a → IsTheLast s → IsTheLast (ticked_for c q s a)
   ticked_for_last (Some c) q s a e h = refl
   ticked_for_last None q s a e h = current_last s a (at_floor (floor_now q.floor a.values.floor) a) e refl h
 
-  ticked_last : (o : Option OpenAuction) (q : Quote) (s : RoomState P Q) → s.current ≡ o → IsTheLast s → IsTheLast (ticked o q s)
+  ticked_last : (o : Option OpenValues) (q : Quote) (s : RoomState P Q) → s.current ≡ o → IsTheLast s → IsTheLast (ticked o q s)
   ticked_last None q s e h = h
   ticked_last (Some a) q s e h = ticked_for_last (tick_cause a.values (turned_quote a.values.order.side q)) (turned_quote a.values.order.side q) s a e h
 
@@ -115,7 +115,7 @@ module _ {P T F Q : Type 0} (w : World P T F Q) (m : Moment P T F Q) where
     fewer : opened_number m.answer ≡ None → is_collected m.answer ≡ true → m.after.opened ≡ m.stepped.opened → held_in m.after + 1 ≡ held_in m.stepped
         → due m.after.time m.after.current ≡ false → m.after.source ≡ m.stepped.source → Counted
 
-  pub opened_held : (o : Option OpenAuction) (es : List EndedAuction) → length (closed (byte "A") o es) + 1 ≡ (length es + cond (is_some o) 1 0) + 1
+  pub opened_held : (o : Option OpenValues) (es : List EndedValues) → length (closed (byte "A") o es) + 1 ≡ (length es + cond (is_some o) 1 0) + 1
   opened_held None es = omega arith
   opened_held (Some a) es = let more = closed_length (byte "A") a es in omega arith
 
@@ -172,9 +172,9 @@ module _ {P T F Q : Type 0} (w : World P T F Q) (m : Moment P T F Q) where
       ap (λ (v : RoomState P Q). v.position) f ∙ sym (ap (λ (v : Call T). position_then w.market.next (is_accepted m.answer) (tick_in v) m.stepped.position) j)
 
   -- the call's own business leaves time and number,
-  module _ {X : Type 0} (f : RoomState P Q → X) (ends : (c : ℕ) (s : RoomState P Q) → f (ended c s) ≡ f s) (holds : (a : OpenAuction) (s : RoomState P Q) → f (with_current a s) ≡ f s)
+  module _ {X : Type 0} (f : RoomState P Q → X) (ends : (c : ℕ) (s : RoomState P Q) → f (ended c s) ≡ f s) (holds : (a : OpenValues) (s : RoomState P Q) → f (with_current a s) ≡ f s)
       (halts_so : (b : Bool) (s : RoomState P Q) → f (with_halted b s) ≡ f s) (moves : (p : P) (s : RoomState P Q) → f (at_position p s) ≡ f s) (opens : (s : RoomState P Q) (o : PairedOrder) (r : RangePrices) → f (opened_with w s o r) ≡ f s)
-      (collects : (es : List EndedAuction) (s : RoomState P Q) → f (with_waiting es s) ≡ f s) where
+      (collects : (es : List EndedValues) (s : RoomState P Q) → f (with_waiting es s) ≡ f s) where
     did_keeps : Did w m → f m.after ≡ f m.stepped
     did_keeps (idle b i e k) = ap f e ∙ halts_so b m.stepped
     did_keeps (opened d) = ap f d.after_is ∙ opens m.stepped d.request.order d.range

@@ -5,10 +5,10 @@ use Rattle.std.proofs.lemmas.Bool.Decides.{nat_tests as tests}
 use Rattle.market.specs.declared.quote.Quote.{Quote}
 use Rattle.market.specs.declared.range.TurnedQuote.{TurnedQuote}
 use Rattle.market.specs.Range.{turned_quote}
-use Rattle.room.specs.State.{OpenAuction, EndedAuction, RoomState, at_time, at_position, with_halted, with_current, ended, is_number, numbered, without_number}
+use Rattle.room.specs.State.{OpenValues, EndedValues, RoomState, at_time, at_position, with_halted, with_current, ended, is_number, numbered, without_number}
 use Rattle.room.specs.Ticks.{tick_cause, ticked_for, ticked, at_floor, floor_now}
 use Rattle.room.specs.World.{World}
-use Rattle.session.specs.declared.calls.Call.{Call}
+use Rattle.session.specs.declared.call.Call.{Call}
 use Rattle.session.specs.History.{opens, collects, opened_number, is_collected, is_same, claimed, plain_below}
 use Rattle.session.specs.Moments.{is_open, exchange_of}
 use Rattle.session.specs.Runs.{Answer, Opened, Moment}
@@ -56,15 +56,15 @@ module _ {P Q : Type 0} where
     stepped_elsewhere s u (kept t e d) h = subst (Elsewhere n s) (sym e) (same_elsewhere s (at_time t s) h refl refl)
     stepped_elsewhere s u (expired t a c d e) h = subst (Elsewhere n s) (sym e) (both_elsewhere s (at_time t s) (ended (byte "T") (at_time t s)) (same_elsewhere s (at_time t s) h refl refl) (ended_elsewhere (byte "T") (at_time t s) h))
 
-    responded_elsewhere : (b : Bool) (a : OpenAuction) (s : RoomState P Q) → is_open n s ≡ false → eqb a.number n ≡ false → Elsewhere n s (cond b (ended (byte "E") (with_current a s)) (with_current a s))
+    responded_elsewhere : (b : Bool) (a : OpenValues) (s : RoomState P Q) → is_open n s ≡ false → eqb a.number n ≡ false → Elsewhere n s (cond b (ended (byte "E") (with_current a s)) (with_current a s))
     responded_elsewhere true a s h k = both_elsewhere s (with_current a s) (ended (byte "E") (with_current a s)) (same_elsewhere s (with_current a s) k refl refl) (ended_elsewhere (byte "E") (with_current a s) k)
     responded_elsewhere false a s h k = same_elsewhere s (with_current a s) k refl refl
 
-    ticked_for_elsewhere : (c : Option ℕ) (q : TurnedQuote) (s : RoomState P Q) (a : OpenAuction) → is_open n s ≡ false → eqb a.number n ≡ false → Elsewhere n s (ticked_for c q s a)
+    ticked_for_elsewhere : (c : Option ℕ) (q : TurnedQuote) (s : RoomState P Q) (a : OpenValues) → is_open n s ≡ false → eqb a.number n ≡ false → Elsewhere n s (ticked_for c q s a)
     ticked_for_elsewhere (Some c) q s a h k = ended_elsewhere c s h
     ticked_for_elsewhere None q s a h k = same_elsewhere s (with_current (at_floor (floor_now q.floor a.values.floor) a) s) k refl refl
 
-    ticked_elsewhere : (o : Option OpenAuction) (q : Quote) (s : RoomState P Q) → s.current ≡ o → is_open n s ≡ false → Elsewhere n s (ticked o q s)
+    ticked_elsewhere : (o : Option OpenValues) (q : Quote) (s : RoomState P Q) → s.current ≡ o → is_open n s ≡ false → Elsewhere n s (ticked o q s)
     ticked_elsewhere None q s e h = same_elsewhere s s h refl refl
     ticked_elsewhere (Some a) q s e h =
         let f = turned_quote a.values.order.side q in
@@ -111,7 +111,7 @@ module _ {P T F Q : Type 0} (w : World P T F Q) (n : ℕ) (m : Moment P T F Q) w
   not_opened did h = opened_before (opened_or_not w m did) h
 
   -- an auction that does not wait is not collected
-  claim_differs : (es : List EndedAuction) (k : ℕ) (x : EndedAuction) (b : Bool) → eqb k n ≡ b → numbered k es ≡ Some x → numbered n es ≡ None → b ≡ false
+  claim_differs : (es : List EndedValues) (k : ℕ) (x : EndedValues) (b : Bool) → eqb k n ≡ b → numbered k es ≡ Some x → numbered n es ≡ None → b ≡ false
   claim_differs es k x false e f g = refl
   claim_differs es k x true e f g =
       let same : k ≡ n = grind (arith, tests) in

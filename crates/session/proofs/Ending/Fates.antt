@@ -8,11 +8,11 @@ use Rattle.allocation.specs.declared.order.PairedOrder.{PairedOrder}
 use Rattle.allocation.specs.Auction.{told_of}
 use Rattle.room.specs.declared.answers.StoredTerms.{StoredTerms}
 use Rattle.room.specs.Clock.{due}
-use Rattle.room.specs.State.{OpenAuction, EndedAuction, RoomState, at_time, at_position, with_halted, with_current, ended, closed, is_number, numbered, without_number}
+use Rattle.room.specs.State.{OpenValues, EndedValues, RoomState, at_time, at_position, with_halted, with_current, ended, closed, is_number, numbered, without_number}
 use Rattle.room.specs.Ticks.{shown_above, shown_below, above_response, above_stop, ends_for, tick_cause, ticked_for, ticked, at_floor, floor_now}
 use Rattle.room.specs.World.{World}
-use Rattle.session.specs.declared.calls.Call.{Call}
-use Rattle.session.specs.declared.calls.Call.TheVariants.{Tick, Halt}
+use Rattle.session.specs.declared.call.Call.{Call}
+use Rattle.session.specs.declared.call.Call.TheVariants.{Tick, Halt}
 use Rattle.session.specs.History.{Exchange, Story, deadline_of, guarantee_of, opens, collects, ticked_at, another_opened, opened_number, told_terms, is_accepted, is_collected, is_same, claimed, tick_in, is_halt, plain_below, stood_after, storing_after, next_arrival, shown_or, is_above, is_below, stop_passed, above_one, position_then, time_then, market_at, shown_now, deadline_reached, floor_above_initiating, floor_above_response, floor_above_stop, contra_below_guarantee, plain_response_below_floor, halt_accepted, first_cause, stood_told, lived, going_on, cause_by, cause_at}
 use Rattle.session.specs.Moments.{is_open, ends_at, exchange_of, history_of}
 use Rattle.session.specs.Reasons.{stored_by}
@@ -63,7 +63,7 @@ same_either false x = refl
 module _ {P T F Q : Type 0} (w : World P T F Q) (p : P) (q : Q) where
   -- the auction ends here, for the first cause that the call brings, and waits
   pub record EndsHere (n : ℕ) (past : List (Moment P T F Q)) (m : Moment P T F Q) : Type 0 where
-    pub as_it_waits : EndedAuction
+    pub as_it_waits : EndedValues
     pub caused : cause_at w p q n (history_of past) (exchange_of m) ≡ Some as_it_waits.cause
     pub waits_now : numbered n m.after.waiting ≡ Some as_it_waits
     pub waits_once : Once n m.after.waiting
@@ -71,10 +71,10 @@ module _ {P T F Q : Type 0} (w : World P T F Q) (p : P) (q : Q) where
     pub over : Over w p q n (m ∷ past) as_it_waits
 
   pub data Fate (n : ℕ) (past : List (Moment P T F Q)) (m : Moment P T F Q) : Type 0 where
-    stays : (a : OpenAuction) → cause_at w p q n (history_of past) (exchange_of m) ≡ None → m.after.current ≡ Some a → eqb a.number n ≡ true → numbered n m.after.waiting ≡ None → Alive w p q n (m ∷ past) a → Fate n past m
+    stays : (a : OpenValues) → cause_at w p q n (history_of past) (exchange_of m) ≡ None → m.after.current ≡ Some a → eqb a.number n ≡ true → numbered n m.after.waiting ≡ None → Alive w p q n (m ∷ past) a → Fate n past m
     ends : EndsHere n past m → Fate n past m
 
-  module _ (n : ℕ) (past : List (Moment P T F Q)) (m : Moment P T F Q) (timed : m.stepped.time ≡ time_then (history_of (m ∷ past))) (a : OpenAuction) (live : Alive w p q n past a) where
+  module _ (n : ℕ) (past : List (Moment P T F Q)) (m : Moment P T F Q) (timed : m.stepped.time ≡ time_then (history_of (m ∷ past))) (a : OpenValues) (live : Alive w p q n past a) where
     abbrev before : List (Exchange T F)
     before = history_of past
 
@@ -166,7 +166,7 @@ module _ {P T F Q : Type 0} (w : World P T F Q) (p : P) (q : Q) where
     matches_quiet : told_terms m.answer ≡ None → (ticked_at x && not (is_some (first_cause w p q before x s))) ≡ false → Matches s_next a
     matches_quiet k f = matches_as_it_was (floor_kept f) (stood_quiet k) (storing_quiet k)
 
-    now_over : (c : ℕ) (b : OpenAuction) → opens n x ≡ false → collects n x ≡ false → ends_at n m ≡ true → first_cause w p q before x s ≡ Some c → Matches s_next b → Apart b → Over w p q n (m ∷ past) (as_ended c b)
+    now_over : (c : ℕ) (b : OpenValues) → opens n x ≡ false → collects n x ≡ false → ends_at n m ≡ true → first_cause w p q before x s ≡ Some c → Matches s_next b → Apart b → Over w p q n (m ∷ past) (as_ended c b)
     now_over c b o u h k t y = record {
       story = s_next;
       is_its_story = story_lives w p q n past m s o live.is_its_story live.goes_on;
@@ -180,7 +180,7 @@ module _ {P T F Q : Type 0} (w : World P T F Q) (p : P) (q : Q) where
       uncollected = collected_kept w p q n past m u ∙ live.uncollected;
     }
 
-    still_alive : (b : OpenAuction) → opens n x ≡ false → collects n x ≡ false → ends_at n m ≡ false → first_cause w p q before x s ≡ None → length b.used ≡ length a.used → Matches s_next b → Apart b → Alive w p q n (m ∷ past) b
+    still_alive : (b : OpenValues) → opens n x ≡ false → collects n x ≡ false → ends_at n m ≡ false → first_cause w p q before x s ≡ None → length b.used ≡ length a.used → Matches s_next b → Apart b → Alive w p q n (m ∷ past) b
     still_alive b o u h k l t y = record {
       story = s_next;
       is_its_story = story_lives w p q n past m s o live.is_its_story live.goes_on;
@@ -196,7 +196,7 @@ module _ {P T F Q : Type 0} (w : World P T F Q) (p : P) (q : Q) where
     }
 
     -- an auction that has just ended, for this cause, waits behind the others
-    ends_now : (c : ℕ) (b : OpenAuction) → is_open n m.before ≡ true → is_open n m.after ≡ false → opens n x ≡ false → collects n x ≡ false
+    ends_now : (c : ℕ) (b : OpenValues) → is_open n m.before ≡ true → is_open n m.after ≡ false → opens n x ≡ false → collects n x ≡ false
         → eqb b.number n ≡ true → numbered n m.before.waiting ≡ None → m.after.waiting ≡ m.before.waiting ++ as_ended c b ∷ []
         → first_cause w p q before x s ≡ Some c → Matches s_next b → Apart b → Fate n past m
     ends_now c b h k o u i z e f t y =
@@ -210,7 +210,7 @@ module _ {P T F Q : Type 0} (w : World P T F Q) (p : P) (q : Q) where
           over = now_over c b o u ended_here f t y;
         })
 
-    stays_now : (b : OpenAuction) → is_open n m.before ≡ true → m.after.current ≡ Some b → eqb b.number n ≡ true → opens n x ≡ false → collects n x ≡ false
+    stays_now : (b : OpenValues) → is_open n m.before ≡ true → m.after.current ≡ Some b → eqb b.number n ≡ true → opens n x ≡ false → collects n x ≡ false
         → numbered n m.after.waiting ≡ None → length b.used ≡ length a.used → first_cause w p q before x s ≡ None → Matches s_next b → Apart b → Fate n past m
     stays_now b h e i o u z l f t y =
         let still : is_open n m.after ≡ true = ap (is_number n) e ∙ i in
@@ -296,7 +296,7 @@ module _ {P T F Q : Type 0} (w : World P T F Q) (p : P) (q : Q) where
 
       -- a response, a change or a withdrawal is accepted
       module _ (here : StoredHere w m) (is : here.was ≡ a) (did : Did w m) where
-        abbrev b : OpenAuction
+        abbrev b : OpenValues
         b = here.now
 
         quiet_tick : ticked_at x ≡ false
@@ -308,7 +308,7 @@ module _ {P T F Q : Type 0} (w : World P T F Q) (p : P) (q : Q) where
         counts_now : CountsThese (storing_after m.call s.storers) b
         counts_now =
             let was = live.matches in
-            here.counts (ap (λ (v : OpenAuction). length v.used) is ∙ live.a_count_each) s.storers (subst (CountsThese s.storers) (sym is) (record { all = was.arrivals_is; of_each = was.used_is }))
+            here.counts (ap (λ (v : OpenValues). length v.used) is ∙ live.a_count_each) s.storers (subst (CountsThese s.storers) (sym is) (record { all = was.arrivals_is; of_each = was.used_is }))
 
         matches_stored : Matches s_next b
         matches_stored =
@@ -317,15 +317,15 @@ module _ {P T F Q : Type 0} (w : World P T F Q) (p : P) (q : Q) where
             let not_late = not_yet t e c d in
             let storing = storing_stored here.terms not_late told_so in
             record {
-              order_is = same.same_order ∙ ap (λ (v : OpenAuction). v.values.order) is ∙ was.order_is;
-              initiating_is = same.same_initiating ∙ ap (λ (v : OpenAuction). v.values.initiating) is ∙ was.initiating_is;
-              floor_is = same.same_floor ∙ ap (λ (v : OpenAuction). v.values.floor) is ∙ was.floor_is ∙ sym (floor_kept (no_tick quiet_tick));
-              stood_is = here.stood_is ∙ ap (λ (v : OpenAuction). stood_after m.call here.terms (v.arrivals + 1) (told_of v.values)) is
+              order_is = same.same_order ∙ ap (λ (v : OpenValues). v.values.order) is ∙ was.order_is;
+              initiating_is = same.same_initiating ∙ ap (λ (v : OpenValues). v.values.initiating) is ∙ was.initiating_is;
+              floor_is = same.same_floor ∙ ap (λ (v : OpenValues). v.values.floor) is ∙ was.floor_is ∙ sym (floor_kept (no_tick quiet_tick));
+              stood_is = here.stood_is ∙ ap (λ (v : OpenValues). stood_after m.call here.terms (v.arrivals + 1) (told_of v.values)) is
                   ∙ ap (λ k. stood_after m.call here.terms (k + 1) (told_of a.values)) was.arrivals_is ∙ ap (stood_after m.call here.terms (next_arrival s)) was.stood_is ∙ sym (stood_stored here.terms not_late told_so);
-              deadline_is = same.same_deadline ∙ ap (λ (v : OpenAuction). v.deadline) is ∙ was.deadline_is;
+              deadline_is = same.same_deadline ∙ ap (λ (v : OpenValues). v.deadline) is ∙ was.deadline_is;
               arrivals_is = counts_now.all ∙ ap length (sym storing);
               used_is = λ k h l. counts_now.of_each k h l ∙ ap (stored_by k) (sym storing);
-              sound = here.sound (subst (λ (v : OpenAuction). Sound v.values) (sym is) was.sound);
+              sound = here.sound (subst (λ (v : OpenValues). Sound v.values) (sym is) was.sound);
             }
 
         apart_now : Apart b
@@ -336,10 +336,10 @@ module _ {P T F Q : Type 0} (w : World P T F Q) (p : P) (q : Q) where
             ap (λ (k : Answer F). is_some (told_terms k) && plain_below s.opening.order.side s.floor m.call) here.answer_is
             ∙ ap (λ k. plain_below s.opening.order.side k m.call) (sym live.matches.floor_is)
             ∙ ap (λ (k : PairedOrder). plain_below k.side a.values.floor m.call) (sym live.matches.order_is)
-            ∙ ap (λ (v : OpenAuction). plain_below v.values.order.side v.values.floor m.call) (sym is)
+            ∙ ap (λ (v : OpenValues). plain_below v.values.order.side v.values.floor m.call) (sym is)
 
         number_is : eqb b.number n ≡ true
-        number_is = ap (λ k. eqb k n) here.same.same_number ∙ ap (λ (v : OpenAuction). eqb v.number n) is ∙ i
+        number_is = ap (λ k. eqb k n) here.same.same_number ∙ ap (λ (v : OpenValues). eqb v.number n) is ∙ i
 
         not_opening : tA ≡ false
         not_opening = ap (λ (k : Answer F). is_some (opened_number k)) here.answer_is
@@ -358,7 +358,7 @@ module _ {P T F Q : Type 0} (w : World P T F Q) (p : P) (q : Q) where
             matches_stored apart_now
         fate_stored false h f =
             stays_now b open_before (ap (λ (v : RoomState P Q). v.current) f) number_is (not_opened w n m did o) (not_collected w n m did none_then)
-            (ap (λ (v : RoomState P Q). numbered n v.waiting) f ∙ none_then) (here.same.as_many_counts ∙ ap (λ (v : OpenAuction). length v.used) is)
+            (ap (λ (v : RoomState P Q). numbered n v.waiting) f ∙ none_then) (here.same.as_many_counts ∙ ap (λ (v : OpenValues). length v.used) is)
             (none_of tT tA (ticked_at x) _ _ _ _ tE tH (not_yet t e c d) not_opening
             quiet_tick (below_is ∙ h) not_halting)
             matches_stored apart_now
@@ -417,7 +417,7 @@ module _ {P T F Q : Type 0} (w : World P T F Q) (p : P) (q : Q) where
         told_none = ap (λ (k : Answer F). told_terms k) y
 
         -- the same auction at the new floor
-        abbrev refloored : OpenAuction
+        abbrev refloored : OpenValues
         refloored = at_floor (floor_now quote_now.floor a.values.floor) a
 
         matches_refloored : tick_cause a.values quote_now ≡ None → Matches s_next refloored
@@ -478,7 +478,7 @@ module _ {P T F Q : Type 0} (w : World P T F Q) (p : P) (q : Q) where
           (ap (λ (v : Answer F). is_accepted v && is_halt m.call) y))
           (matches_quiet (ap (λ (v : Answer F). told_terms v) y) (no_tick no_ticks)) live.apart
 
-      same_auction : (b : OpenAuction) → m.stepped.current ≡ Some b → b ≡ a
+      same_auction : (b : OpenValues) → m.stepped.current ≡ Some b → b ≡ a
       same_auction b h = let g = current_then in cc
 
       fate_kept : Did w m → Did w m → Fate n past m
@@ -499,4 +499,4 @@ module _ {P T F Q : Type 0} (w : World P T F Q) (p : P) (q : Q) where
     fate did (kept t e d) c i z o at = fate_kept t e c i d z o at did did
     fate did (expired t b u l e) c i z o at =
         let is : b ≡ a = cc in
-        ends (expired_ends did t c i z o (subst (λ (v : OpenAuction). leb v.deadline t ≡ true) is l) e)
+        ends (expired_ends did t c i z o (subst (λ (v : OpenValues). leb v.deadline t ≡ true) is l) e)

@@ -7,16 +7,16 @@ use Rattle.std.proofs.lemmas.List.{get_or-replicate}
 use lib.Signed.{lt_z}
 use Rattle.std.specs.Int.{int_min}
 use Rattle.market.specs.declared.quote.Quote.{Quote}
-use Rattle.market.specs.Prices.{in_limits}
-use Rattle.market.specs.Turned.{turned}
+use Rattle.market.specs.Limits.{in_limits}
+use Rattle.market.specs.Side.{turned}
 use Rattle.market.specs.Range.{RangePrices, permitted, range_faced, turned_quote}
 use Rattle.interval.specs.Source.{WithinLimits}
 use Rattle.allocation.specs.declared.order.PairedOrder.{PairedOrder}
 use Rattle.room.specs.Clock.{due}
 use Rattle.room.specs.Openings.{new_auction, none_used}
-use Rattle.room.specs.State.{OpenAuction, EndedAuction, RoomState, new_room, numbered, without_number, used_by}
+use Rattle.room.specs.State.{OpenValues, EndedValues, RoomState, new_room, numbered, without_number, used_by}
 use Rattle.room.specs.World.{World}
-use Rattle.session.specs.declared.calls.Call.{Call}
+use Rattle.session.specs.declared.call.Call.{Call}
 use Rattle.session.specs.Ending.{collectings, held_in}
 use Rattle.session.specs.History.{Exchange, OpeningFacts, Story, new_story, range_shown, story_by, clock_time, opens, collects, opened_number, is_accepted, is_collected, is_same, claimed, tick_in, order_in, halted_by, time_then, halted_then, openings, was_collected, story_after, story_opened, story_of, market_at, source_at, position_then}
 use Rattle.session.specs.Moments.{is_open, ends_at, times_ended, exchange_of, history_of}
@@ -143,7 +143,7 @@ module _ {P T F Q : Type 0} (w : World P T F Q) (drawn : WithinLimits w.source) 
       abbrev order : PairedOrder
       order = d.request.order
 
-      abbrev new : OpenAuction
+      abbrev new : OpenValues
       new = new_auction w m.stepped order d.range
 
       abbrev facts : OpeningFacts
@@ -230,7 +230,7 @@ module _ {P T F Q : Type 0} (w : World P T F Q) (drawn : WithinLimits w.source) 
         (ap (λ (e : RoomState P Q). is_open n e) d.after_is ∙ shut) (later n o) taken
     collected_life n (inr none) c once shut o taken = true_false (sym c ∙ ap (λ (b : Bool). b && is_same n (claimed m.call)) none)
 
-    waiting_next : (n : ℕ) (b : Bool) → collects n x ≡ b → (e : EndedAuction) → numbered n m.before.waiting ≡ Some e → Once n m.before.waiting → is_open n m.before ≡ false → n ≤ m.before.opened → Over w p q n past e → Life w p q n (m ∷ past) m.after
+    waiting_next : (n : ℕ) (b : Bool) → collects n x ≡ b → (e : EndedValues) → numbered n m.before.waiting ≡ Some e → Once n m.before.waiting → is_open n m.before ≡ false → n ≤ m.before.opened → Over w p q n past e → Life w p q n (m ∷ past) m.after
     waiting_next n true c e z once k o v =
         let first = stepped_elsewhere n m.before m.stepped clock k in
         collected_life n (collected_or_not w m business) c (first.still_once once) first.still_closed o
@@ -241,7 +241,7 @@ module _ {P T F Q : Type 0} (w : World P T F Q) (drawn : WithinLimits w.source) 
         waiting e (away.same_waiting ∙ z) (away.still_once once) away.still_closed (later n o) (over_kept w p q n past m e k unopened c v)
 
     -- The open auction.
-    pub fate_of : (n : ℕ) (a : OpenAuction) → m.before.current ≡ Some a → eqb a.number n ≡ true → numbered n m.before.waiting ≡ None → n ≤ m.before.opened → Alive w p q n past a → Fate w p q n past m
+    pub fate_of : (n : ℕ) (a : OpenValues) → m.before.current ≡ Some a → eqb a.number n ≡ true → numbered n m.before.waiting ≡ None → n ≤ m.before.opened → Alive w p q n past a → Fate w p q n past m
     fate_of n a c i z o live = fate w p q n past m time_stepped a live business clock c i z (earlier n o) h.position_is
 
     alive_next : (n : ℕ) → n ≤ m.before.opened → Fate w p q n past m → Life w p q n (m ∷ past) m.after
@@ -279,7 +279,7 @@ module _ {P T F Q : Type 0} (w : World P T F Q) (drawn : WithinLimits w.source) 
         let i = stepped_held m.before m.stepped clock in let k = h.none_lost in omega arith
 
     -- an opening finds none that waits, and nothing else makes the room hold more
-    one_open : (o : Option OpenAuction) → cond (is_some o) 1 0 ≤ 1
+    one_open : (o : Option OpenValues) → cond (is_some o) 1 0 ≤ 1
     one_open None = omega arith
     one_open (Some a) = omega arith
 

@@ -10,11 +10,11 @@ use Rattle.room.specs.Collecting.{CollectionTold, fill_rows, waiting_now, writte
 use Rattle.room.specs.Openings.{opening}
 use Rattle.room.specs.Refusals.{RefusalTold, refuse, unless, outcome}
 use Rattle.room.specs.Responses.{responding, changing, withdrawing}
-use Rattle.room.specs.State.{OpenAuction, EndedAuction, RoomState, new_room, is_number, numbered, without_number, with_waiting, with_halted, at_time, ended}
+use Rattle.room.specs.State.{OpenValues, EndedValues, RoomState, new_room, is_number, numbered, without_number, with_waiting, with_halted, at_time, ended}
 use Rattle.room.specs.Ticks.{ticking}
 use Rattle.room.specs.World.{World, Terms}
-use Rattle.session.specs.declared.calls.Call.{Call}
-use Rattle.session.specs.declared.calls.Call.TheVariants.{Open, Respond, Change, Withdraw, Tick, Halt, Resume, Clock, Look, Collect}
+use Rattle.session.specs.declared.call.Call.{Call}
+use Rattle.session.specs.declared.call.Call.TheVariants.{Open, Respond, Change, Withdraw, Tick, Halt, Resume, Clock, Look, Collect}
 use Rattle.session.specs.Ending.{TimedAt, CollectedWhenDue, told_cause, EndedWithinASecond, NotByTimeTooSoon, BusinessAfterTheClockStep, EndedNotVanished, EndedForItsCauses, AuctionsEndAsRuled}
 use Rattle.session.specs.History.{Story, deadline_of, is_over, clock_time, time_or_zero, opened_number, is_collected, time_then, openings, was_collected, going_on, waits_then, story_of, cause_by, cause_at, cause_of}
 use Rattle.session.specs.Moments.{is_open, ends_at, times_ended, exchange_of, history_of, Throughout}
@@ -61,7 +61,7 @@ business_after w s Look = refl
 business_after w s (Collect c n) = ap (λ u. step w u (Collect c n)) (unstepped (collect_checks n) s)
 
 -- whether a collecting is accepted, by the tests one after another
-accepted_by : {P T F Q : Type 0} (w : World P T F Q) (a b c : Bool) (o : Option EndedAuction) (s : RoomState P Q) (k : EndedAuction → RoomState P Q) (r : EndedAuction → CollectionTold)
+accepted_by : {P T F Q : Type 0} (w : World P T F Q) (a b c : Bool) (o : Option EndedValues) (s : RoomState P Q) (k : EndedValues → RoomState P Q) (r : EndedValues → CollectionTold)
     → is_collected (answered {F = F} (λ z. Collected z (written w (unless (refuse a 6 None) (unless (refuse b 42 (refuse c 41 None)) (waiting_now o)))))
     (outcome (unless (refuse a 6 None) (unless (refuse b 42 (refuse c 41 None)) (waiting_now o))) s k r).1)
     ≡ (not a && (not b && (not c && is_some o)))
@@ -96,10 +96,10 @@ module _ {P T F Q : Type 0} (w : World P T F Q) (drawn : WithinLimits w.source) 
     reaches : (t : ℕ) → TimedAt t m → m.stepped.time ≡ max s.time t
     reaches t k = reaches_time ∙ ap (λ (o : Option ℕ). max s.time (cond (is_some o) 0 (time_or_zero (given_time c)))) k.1 ∙ ap (λ o. max s.time (time_or_zero o)) k.0
 
-    same_story : (n : ℕ) (a : OpenAuction) (live : Alive w p q n past a) (f : Story) → story_of w p q n (history_of past) ≡ Some f → live.story ≡ f
+    same_story : (n : ℕ) (a : OpenValues) (live : Alive w p q n past a) (f : Story) → story_of w p q n (history_of past) ≡ Some f → live.story ≡ f
     same_story n a live f e = let g = live.is_its_story in cc
 
-    second_alive : (n t : ℕ) (f : Story) (a : OpenAuction) → TimedAt t m → f.opening.time + 1000 ≤ t → s.current ≡ Some a → eqb a.number n ≡ true → numbered n s.waiting ≡ None → n ≤ s.opened
+    second_alive : (n t : ℕ) (f : Story) (a : OpenValues) → TimedAt t m → f.opening.time + 1000 ≤ t → s.current ≡ Some a → eqb a.number n ≡ true → numbered n s.waiting ≡ None → n ≤ s.opened
         → (live : Alive w p q n past a) → live.story ≡ f → Stepped s m.stepped → (is_open n m.stepped ≡ false) × (times_ended n (m ∷ past) ≡ 1)
     second_alive n t f a k l e i z o live g (kept t' u d) =
         let late : leb a.deadline t' ≡ false = sym (ap (due t') e) ∙ d in
@@ -110,7 +110,7 @@ module _ {P T F Q : Type 0} (w : World P T F Q) (drawn : WithinLimits w.source) 
         absurd (omega arith)
     second_alive n t f a k l e i z o live g (expired t' b x y u) =
         let is : b ≡ a = cc in
-        let over = expired_ends w p q n past m time_now a live (did w s c) t' e i z (earlier w drawn number p q past m h clock reaches_time (did w s c) n o) (subst (λ (v : OpenAuction). leb v.deadline t' ≡ true) is y) u in
+        let over = expired_ends w p q n past m time_now a live (did w s c) t' e i z (earlier w drawn number p q past m h clock reaches_time (did w s c) n o) (subst (λ (v : OpenValues). leb v.deadline t' ≡ true) is y) u in
         (ap (λ (v : RoomState P Q). is_open n v) u, over.over.ended_once)
 
     second_closed : (n : ℕ) → is_open n s ≡ false → times_ended n past ≡ 1 → (is_open n m.stepped ≡ false) × (times_ended n (m ∷ past) ≡ 1)
@@ -126,12 +126,12 @@ module _ {P T F Q : Type 0} (w : World P T F Q) (drawn : WithinLimits w.source) 
     within_a_second n t f e k l = second_by n t f e k l (h.lives n)
 
     -- Not by time too soon.
-    soon_alive : (n : ℕ) (a : OpenAuction) → s.current ≡ Some a → is_open n s ≡ true → is_open n m.stepped ≡ false → Alive w p q n past a → Stepped s m.stepped
+    soon_alive : (n : ℕ) (a : OpenValues) → s.current ≡ Some a → is_open n s ≡ true → is_open n m.stepped ≡ false → Alive w p q n past a → Stepped s m.stepped
         → (f : Story) × (story_of w p q n (history_of past) ≡ Some f) × (f.opening.time + 100 ≤ time_then (history_of (m ∷ past)))
     soon_alive n a e k x live (kept t u d) = true_false (sym k ∙ sym (ap (λ (v : RoomState P Q). is_open n v) u) ∙ x)
     soon_alive n a e k x live (expired t b y l u) =
         let is : b ≡ a = cc in
-        let reached : leb a.deadline t ≡ true = subst (λ (v : OpenAuction). leb v.deadline t ≡ true) is l in
+        let reached : leb a.deadline t ≡ true = subst (λ (v : OpenValues). leb v.deadline t ≡ true) is l in
         let at : time_then (history_of (m ∷ past)) ≡ t = sym time_now ∙ ap (λ (v : RoomState P Q). v.time) u in
         let deadline : a.deadline ≡ live.story.opening.time + live.story.opening.interval = live.matches.deadline_is in
         let least = live.at_least in
@@ -242,7 +242,7 @@ module _ {P T F Q : Type 0} (w : World P T F Q) (drawn : WithinLimits w.source) 
     caused_live n (gone z x o g) = caused_not_open n x (stops n g.story g.is_its_story g.is_over)
 
     -- the auction that is collected is one that waits
-    pub waits_over : (n : ℕ) (e : EndedAuction) → numbered n s.waiting ≡ Some e → Life w p q n past s → Over w p q n past e
+    pub waits_over : (n : ℕ) (e : EndedValues) → numbered n s.waiting ≡ Some e → Life w p q n past s → Over w p q n past e
     waits_over n e k (unborn o x v te wc up) = none_some e (sym v ∙ k)
     waits_over n e k (alive a x i z o live) = none_some e (sym z ∙ k)
     waits_over n e k (waiting f z once x o v) = let is : f ≡ e = cc in subst (Over w p q n past) is v

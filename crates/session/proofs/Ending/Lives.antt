@@ -13,11 +13,11 @@ use Rattle.allocation.specs.declared.response.Kind.TheVariants.{Sealed, Plain}
 use Rattle.allocation.specs.declared.response.Response.{Response}
 use Rattle.allocation.specs.FillLaws.{response_told}
 use Rattle.room.specs.Clock.{due, clocked}
-use Rattle.room.specs.State.{OpenAuction, EndedAuction, RoomState, at_time, ended, numbered}
+use Rattle.room.specs.State.{OpenValues, EndedValues, RoomState, at_time, ended, numbered}
 use Rattle.room.specs.Responses.{is_plain}
 use Rattle.room.specs.Ticks.{shown_above, shown_below, above_response, above_stop, floor_now}
 use Rattle.room.specs.World.{World}
-use Rattle.session.specs.declared.calls.Call.{Call}
+use Rattle.session.specs.declared.call.Call.{Call}
 use Rattle.session.specs.History.{Story, is_above, is_below, shown_or, stop_passed, is_plain_kind, above_one, time_or_zero, clock_time, opens, collects, was_collected, order_in, time_then, lived, story_after, story_opened, story_of, cause_told, cause_of}
 use Rattle.session.specs.Moments.{is_open, ends_at, times_ended, exchange_of, history_of}
 use Rattle.session.specs.Runs.{Moment, clock_stepped, given_time, input_refusal}
@@ -32,9 +32,9 @@ use Rattle.std.specs.Str.{byte}
 module _ {P Q : Type 0} where
   pub data Stepped (s u : RoomState P Q) : Type 0 where
     kept : (t : ℕ) → u ≡ at_time t s → due t s.current ≡ false → Stepped s u
-    expired : (t : ℕ) (a : OpenAuction) → s.current ≡ Some a → leb a.deadline t ≡ true → u ≡ ended (byte "T") (at_time t s) → Stepped s u
+    expired : (t : ℕ) (a : OpenValues) → s.current ≡ Some a → leb a.deadline t ≡ true → u ≡ ended (byte "T") (at_time t s) → Stepped s u
 
-  stepped_due : (b : Bool) (t : ℕ) (o : Option OpenAuction) (s : RoomState P Q) → s.current ≡ o → due t o ≡ b → Stepped s (cond b (ended (byte "T") (at_time t s)) (at_time t s))
+  stepped_due : (b : Bool) (t : ℕ) (o : Option OpenValues) (s : RoomState P Q) → s.current ≡ o → due t o ≡ b → Stepped s (cond b (ended (byte "T") (at_time t s)) (at_time t s))
   stepped_due true t None s e h = true_false (sym h)
   stepped_due true t (Some a) s e h = expired t a e h refl
   stepped_due false t o s e h = kept t refl (ap (due t) e ∙ h)
@@ -122,7 +122,7 @@ above_one_is side (Some f) [] = refl
 above_one_is side (Some f) (x ∷ xs) = ap (λ z. lt_z z f || above_one side (Some f) (map (response_told side) xs)) (turned_twice side x.price) ∙ ap (λ b. lt_z x.price f || b) (above_one_is side (Some f) xs)
 
 module _ {P T F Q : Type 0} (w : World P T F Q) (p : P) (q : Q) where
-  pub record Alive (n : ℕ) (past : List (Moment P T F Q)) (a : OpenAuction) : Type 0 where
+  pub record Alive (n : ℕ) (past : List (Moment P T F Q)) (a : OpenValues) : Type 0 where
     pub story : Story
     pub is_its_story : story_of w p q n (history_of past) ≡ Some story
     pub goes_on : story.ended ≡ None
@@ -136,10 +136,10 @@ module _ {P T F Q : Type 0} (w : World P T F Q) (p : P) (q : Q) where
     pub uncollected : was_collected n (history_of past) ≡ false
 
   -- as it was when it ended
-  pub record Over (n : ℕ) (past : List (Moment P T F Q)) (e : EndedAuction) : Type 0 where
+  pub record Over (n : ℕ) (past : List (Moment P T F Q)) (e : EndedValues) : Type 0 where
     pub story : Story
     pub is_its_story : story_of w p q n (history_of past) ≡ Some story
-    pub was : OpenAuction
+    pub was : OpenValues
     pub as_it_was : e.values ≡ was.values
     pub matches : Matches story was
     pub apart : Apart was
@@ -149,7 +149,7 @@ module _ {P T F Q : Type 0} (w : World P T F Q) (p : P) (q : Q) where
     pub uncollected : was_collected n (history_of past) ≡ false
 
   -- the cause for which it ended
-  pub over_cause : (n : ℕ) (past : List (Moment P T F Q)) (e : EndedAuction) → Over n past e → cause_of w p q n (history_of past) ≡ Some e.cause
+  pub over_cause : (n : ℕ) (past : List (Moment P T F Q)) (e : EndedValues) → Over n past e → cause_of w p q n (history_of past) ≡ Some e.cause
   over_cause n past e v = ap cause_told v.is_its_story ∙ v.cause_is
 
   pub record Gone (n : ℕ) (past : List (Moment P T F Q)) : Type 0 where
@@ -162,8 +162,8 @@ module _ {P T F Q : Type 0} (w : World P T F Q) (p : P) (q : Q) where
   pub data Life (n : ℕ) (past : List (Moment P T F Q)) (s : RoomState P Q) : Type 0 where
     unborn : story_of w p q n (history_of past) ≡ None → is_open n s ≡ false → numbered n s.waiting ≡ None → times_ended n past ≡ 0 → was_collected n (history_of past) ≡ false
         → (n ≤ s.opened → n ≡ 0) → Life n past s
-    alive : (a : OpenAuction) → s.current ≡ Some a → eqb a.number n ≡ true → numbered n s.waiting ≡ None → n ≤ s.opened → Alive n past a → Life n past s
-    waiting : (e : EndedAuction) → numbered n s.waiting ≡ Some e → Once n s.waiting → is_open n s ≡ false → n ≤ s.opened → Over n past e → Life n past s
+    alive : (a : OpenValues) → s.current ≡ Some a → eqb a.number n ≡ true → numbered n s.waiting ≡ None → n ≤ s.opened → Alive n past a → Life n past s
+    waiting : (e : EndedValues) → numbered n s.waiting ≡ Some e → Once n s.waiting → is_open n s ≡ false → n ≤ s.opened → Over n past e → Life n past s
     gone : numbered n s.waiting ≡ None → is_open n s ≡ false → n ≤ s.opened → Gone n past → Life n past s
 
   module _ (n : ℕ) (past : List (Moment P T F Q)) (m : Moment P T F Q) where
@@ -200,7 +200,7 @@ module _ {P T F Q : Type 0} (w : World P T F Q) (p : P) (q : Q) where
     pub collected_now : collects n (exchange_of m) ≡ true → was_collected n (history_of (m ∷ past)) ≡ true
     collected_now h = ap (λ (b : Bool). b || was_collected n (history_of past)) h
 
-    pub over_kept : (e : EndedAuction) → is_open n m.before ≡ false → opens n (exchange_of m) ≡ false → collects n (exchange_of m) ≡ false → Over n past e → Over n (m ∷ past) e
+    pub over_kept : (e : EndedValues) → is_open n m.before ≡ false → opens n (exchange_of m) ≡ false → collects n (exchange_of m) ≡ false → Over n past e → Over n (m ∷ past) e
     over_kept e h o c v = record {
       story = v.story;
       is_its_story = story_over v.story o v.is_its_story (ap is_some v.cause_is);

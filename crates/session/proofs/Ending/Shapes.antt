@@ -8,7 +8,7 @@ use Rattle.std.proofs.lemmas.Grind.{get_or-set_at}
 use Rattle.std.proofs.lemmas.List.{map-append, get_or-set_other}
 use Rattle.market.specs.declared.side.Side.{Side}
 use Rattle.market.specs.Range.{RangePrices, permitted}
-use Rattle.market.specs.Turned.{turned}
+use Rattle.market.specs.Side.{turned}
 use Rattle.allocation.specs.declared.order.PairedOrder.{PairedOrder}
 use Rattle.allocation.specs.declared.response.Response.{Response}
 use Rattle.allocation.specs.Auction.{told_of}
@@ -27,18 +27,18 @@ use Rattle.room.specs.Collecting.{collectable, collect_call, collect_rows, fill_
 use Rattle.room.specs.Openings.{opening, opening_range, opened_with, guarantee_refusal, room_refusal, any_waits}
 use Rattle.room.specs.Refusals.{RefusalTold, refuse, unless, outcome}
 use Rattle.room.specs.Responses.{side_checked, above_checked, in_use_checked, used_checked, responding_to, responding, responded, with_response, as_stored, stored_price, stored_size, terms_told, turned_in, with_counted, standing_now, plain_checked, changing, changing_in, with_change, withdrawing, withdrawing_from, with_withdrawal}
-use Rattle.room.specs.State.{OpenAuction, EndedAuction, RoomState, at_position, with_halted, with_current, with_waiting, ended, is_number, numbered, without_number, used_by, one_more}
+use Rattle.room.specs.State.{OpenValues, EndedValues, RoomState, at_position, with_halted, with_current, with_waiting, ended, is_number, numbered, without_number, used_by, one_more}
 use Rattle.room.specs.Ticks.{ticked, ticking_by, ticking}
 use Rattle.room.specs.World.{World}
-use Rattle.session.specs.declared.calls.Call.{Call}
-use Rattle.session.specs.declared.calls.Call.TheVariants.{Open, Respond, Change, Withdraw, Tick, Halt, Resume, Clock, Look, Collect}
+use Rattle.session.specs.declared.call.Call.{Call}
+use Rattle.session.specs.declared.call.Call.TheVariants.{Open, Respond, Change, Withdraw, Tick, Halt, Resume, Clock, Look, Collect}
 use Rattle.session.specs.History.{opened_number, told_terms, is_accepted, is_collected, tick_in, is_halt, halted_by, plain_below, stood_after, storing_after, changed_then, withdrawn_then}
 use Rattle.session.specs.Reasons.{stored_by}
 use Rattle.session.specs.Runs.{Answer, Opened, Stored, Accepted, Looked, Collected, Refused, Moment, answered, answering, clock_stepped, moment}
 use Rattle.session.proofs.Choices.{cond_through}
 use Rattle.session.proofs.Ending.Apart.{Apart, apart_response, apart_change, apart_withdrawal}
 use Rattle.session.proofs.Ending.Lives.{plain_is, unstepped}
-use Rattle.room.proofs.Checked.{TermsInside, opening_sized, response_inside, change_inside}
+use Rattle.room.proofs.InsideLimits.{TermsInside, opening_sized, response_inside, change_inside}
 use Rattle.room.proofs.Sound.{Sound, each_push, each_changed, each_without, stood_sound, stored_may_stand}
 use Rattle.room.proofs.Tests.{true_false, refuse_none, unless_ok, and_then_ok, ok_err}
 use Rattle.std.specs.Str.{byte}
@@ -52,7 +52,7 @@ pub record Quiet {T F : Type 0} (c : Call T) (a : Answer F) : Type 0 where
   pub halts_none : (is_accepted a && is_halt c) ≡ false
 
 -- the same auction but for its responses
-pub record SameButResponses (a b : OpenAuction) : Type 0 where
+pub record SameButResponses (a b : OpenValues) : Type 0 where
   pub same_number : b.number ≡ a.number
   pub same_deadline : b.deadline ≡ a.deadline
   pub same_order : b.values.order ≡ a.values.order
@@ -61,7 +61,7 @@ pub record SameButResponses (a b : OpenAuction) : Type 0 where
   pub as_many_counts : length b.used ≡ length a.used
 
 -- it counts the responses and changes of these members
-pub record CountsThese (ms : List ℕ) (a : OpenAuction) : Type 0 where
+pub record CountsThese (ms : List ℕ) (a : OpenValues) : Type 0 where
   pub all : a.arrivals ≡ length ms
   pub of_each : (member : ℕ) → 1 ≤ member → member ≤ 16 → used_by member a.used ≡ stored_by member ms
 
@@ -82,7 +82,7 @@ module _ {P T F Q : Type 0} (w : World P T F Q) where
   pub record CollectedHere (m : Moment P T F Q) : Type 0 where
     pub claim : ClaimNumbers
     pub rows : ℕ
-    pub auction : EndedAuction
+    pub auction : EndedValues
     pub call_is : m.call ≡ Collect claim rows
     pub no_clock_step : m.stepped ≡ m.before
     pub answer_is : m.answer ≡ Collected (record { count = length (fill_rows w auction); cause = auction.cause }) (fill_rows w auction)
@@ -91,8 +91,8 @@ module _ {P T F Q : Type 0} (w : World P T F Q) where
 
   -- a response is stored, changed or withdrawn; a plain one priced below the floor then ends the auction
   pub record StoredHere (m : Moment P T F Q) : Type 0 where
-    pub was : OpenAuction
-    pub now : OpenAuction
+    pub was : OpenValues
+    pub now : OpenValues
     pub terms : StoredTerms
     pub was_open : m.stepped.current ≡ Some was
     pub answer_is : m.answer ≡ Stored terms
@@ -150,7 +150,7 @@ module _ {P T F Q : Type 0} (w : World P T F Q) where
       )
 
   -- what opens found no auction that waited
-  none_waiting : (es : List EndedAuction) → any_waits es ≡ false → length es ≡ 0
+  none_waiting : (es : List EndedValues) → any_waits es ≡ false → length es ≡ 0
   none_waiting [] h = refl
   none_waiting (e ∷ es) h = true_false h
 
@@ -227,7 +227,7 @@ module _ {P T F Q : Type 0} (w : World P T F Q) where
       cond_through (map (response_told side)) (is_of m o x) xs (x ∷ without_own m o xs)
       ∙ ap (λ l. cond (is_of m o x) (map (response_told side) xs) (response_told side x ∷ l)) (told_withdrawn side m o xs)
 
-  same_but : (a b : OpenAuction) → b.number ≡ a.number → b.deadline ≡ a.deadline → b.values.order ≡ a.values.order → b.values.floor ≡ a.values.floor → b.values.initiating ≡ a.values.initiating → length b.used ≡ length a.used
+  same_but : (a b : OpenValues) → b.number ≡ a.number → b.deadline ≡ a.deadline → b.values.order ≡ a.values.order → b.values.floor ≡ a.values.floor → b.values.initiating ≡ a.values.initiating → length b.used ≡ length a.used
       → SameButResponses a b
   same_but a b e f g h k l = record { same_number = e; same_deadline = f; same_order = g; same_floor = h; same_initiating = k; as_many_counts = l }
 
@@ -243,7 +243,7 @@ module _ {P T F Q : Type 0} (w : World P T F Q) where
       let other : k - 1 ≢ member - 1 = grind (arith, nat_tests) in
       get_or-set_other used (member - 1) (k - 1) (used_by member used + 1) 0 other ∙ y ∙ omega arith
 
-  counts_more : (a : OpenAuction) (member : ℕ) (xs : List Response) → from_to 1 16 member ≡ true → length a.used ≡ 16 → (ms : List ℕ) → CountsThese ms a → CountsThese (member ∷ ms) (with_counted a member xs)
+  counts_more : (a : OpenValues) (member : ℕ) (xs : List Response) → from_to 1 16 member ≡ true → length a.used ≡ 16 → (ms : List ℕ) → CountsThese ms a → CountsThese (member ∷ ms) (with_counted a member xs)
   counts_more a member xs i l ms c =
       let low : 1 ≤ member = grind (arith, nat_tests) in
       let high : member ≤ 16 = grind (arith, nat_tests) in
@@ -251,7 +251,7 @@ module _ {P T F Q : Type 0} (w : World P T F Q) where
       record { all = omega arith; of_each = λ k h g. more_of (eqb member k) member k a.used ms refl i l h (c.of_each member low high) (c.of_each k h g) }
 
   -- an accepted response found the auction open, is not above the initiating price, and has an own number that is free
-  responding_ok : (c : Option OpenAuction) (x : ResponseRequest) (a : OpenAuction) → responding_to c x ≡ Ok a
+  responding_ok : (c : Option OpenValues) (x : ResponseRequest) (a : OpenValues) → responding_to c x ≡ Ok a
       → (c ≡ Some a) × (lt_z a.values.initiating (turned_in a x.price) ≡ false) × (is_some (own_response x.member x.own a.values.stood) ≡ false)
   responding_ok None x a h = ok_err a _ (sym h)
   responding_ok (Some b) x a h =
@@ -261,24 +261,24 @@ module _ {P T F Q : Type 0} (w : World P T F Q) where
       let above = refuse_none (lt_z b.values.initiating (turned_in b x.price)) 23 (in_use_checked b x.member x.own (used_checked b x.member None)) side.1 in
       let free = refuse_none (is_some (own_response x.member x.own b.values.stood)) 24 (used_checked b x.member None) above.1 in (
         ap Some same,
-        subst (λ (z : OpenAuction). lt_z z.values.initiating (turned_in z x.price) ≡ false) same above.0,
-        subst (λ (z : OpenAuction). is_some (own_response x.member x.own z.values.stood) ≡ false) same free.0,
+        subst (λ (z : OpenValues). lt_z z.values.initiating (turned_in z x.price) ≡ false) same above.0,
+        subst (λ (z : OpenValues). is_some (own_response x.member x.own z.values.stood) ≡ false) same free.0,
       )
 
   -- a stored response may stand
-  response_sound : (a : OpenAuction) (x : ResponseRequest) → TermsInside x.size x.member x.own → lt_z a.values.initiating (turned_in a x.price) ≡ false → Sound a.values → Sound (with_response a x).values
+  response_sound : (a : OpenValues) (x : ResponseRequest) → TermsInside x.size x.member x.own → lt_z a.values.initiating (turned_in a x.price) ≡ false → Sound a.values → Sound (with_response a x).values
   response_sound a x i k h =
       let ok = stored_may_stand a.values.order.size a.values.floor a.values.initiating x.size (turned_in a x.price) h.sized h.in_order i.sized k in
       let good : response_ok a.values.order.size a.values.floor a.values.initiating (as_stored a x) ≡ true =
       and_from (from_to 1 16 x.member) _ i.member_inside (and_from (from_to 1 4 x.own) _ i.own_inside ok) in
       stood_sound a.values (a.values.stood ++ as_stored a x ∷ []) h (each_push (response_ok a.values.order.size a.values.floor a.values.initiating) a.values.stood (as_stored a x) h.standing good)
 
-  abbrev responding_moment : RoomState P Q → RoomState P Q → ResponseRequest → Result OpenAuction ℕ → Moment P T F Q
+  abbrev responding_moment : RoomState P Q → RoomState P Q → ResponseRequest → Result OpenValues ℕ → Moment P T F Q
   responding_moment s u x y =
       let z = outcome y u (λ a. responded u a x) (λ a. terms_told a (stored_price a x.price) (stored_size a x.size)) in
       record { call = Respond x; before = s; stepped = u; after = z.0; answer = answered Stored z.1 }
 
-  did_responding : (s u : RoomState P Q) (x : ResponseRequest) (y : Result OpenAuction ℕ) → responding_to u.current x ≡ y → TermsInside x.size x.member x.own → Did (responding_moment s u x y)
+  did_responding : (s u : RoomState P Q) (x : ResponseRequest) (y : Result OpenValues ℕ) → responding_to u.current x ≡ y → TermsInside x.size x.member x.own → Did (responding_moment s u x y)
   did_responding s u x (Ok a) e i =
       let ok = responding_ok u.current x a e in
       stored (record {
@@ -301,7 +301,7 @@ module _ {P T F Q : Type 0} (w : World P T F Q) where
   did_respond s x (Some f) e = idle s.halted refl refl (refused_quiet (Respond x) _)
 
   -- Changes.
-  changing_ok : (c : Option OpenAuction) (x : ChangeRequest) (a : OpenAuction) → changing_in c x ≡ Ok a → (c ≡ Some a) × (lt_z a.values.initiating (turned_in a x.price) ≡ false)
+  changing_ok : (c : Option OpenValues) (x : ChangeRequest) (a : OpenValues) → changing_in c x ≡ Ok a → (c ≡ Some a) × (lt_z a.values.initiating (turned_in a x.price) ≡ false)
   changing_ok None x a h = ok_err a _ (sym h)
   changing_ok (Some b) x a h =
       let found = and_then_ok (standing_now (own_response x.member x.own b.values.stood)) (λ y. unless (plain_checked y (above_checked b x.price (used_checked b x.member None))) (Ok b)) a h in
@@ -309,19 +309,19 @@ module _ {P T F Q : Type 0} (w : World P T F Q) where
       let same : b ≡ a = let e = past.1 in cc in
       let plain = refuse_none _ 26 (above_checked b x.price (used_checked b x.member None)) past.0 in
       let above = refuse_none (lt_z b.values.initiating (turned_in b x.price)) 23 (used_checked b x.member None) plain.1 in
-      (ap Some same, subst (λ (z : OpenAuction). lt_z z.values.initiating (turned_in z x.price) ≡ false) same above.0)
+      (ap Some same, subst (λ (z : OpenValues). lt_z z.values.initiating (turned_in z x.price) ≡ false) same above.0)
 
-  change_sound : (a : OpenAuction) (x : ChangeRequest) → TermsInside x.size x.member x.own → lt_z a.values.initiating (turned_in a x.price) ≡ false → Sound a.values → Sound (with_change a x).values
+  change_sound : (a : OpenValues) (x : ChangeRequest) → TermsInside x.size x.member x.own → lt_z a.values.initiating (turned_in a x.price) ≡ false → Sound a.values → Sound (with_change a x).values
   change_sound a x i k h =
       let ok = stored_may_stand a.values.order.size a.values.floor a.values.initiating x.size (turned_in a x.price) h.sized h.in_order i.sized k in
       stood_sound a.values _ h (each_changed x.member x.own a.values.order.size a.values.floor a.values.initiating (stored_size a x.size) (stored_price a x.price) (a.arrivals + 1) a.values.stood ok h.standing)
 
-  abbrev changing_moment : RoomState P Q → RoomState P Q → ChangeRequest → Result OpenAuction ℕ → Moment P T F Q
+  abbrev changing_moment : RoomState P Q → RoomState P Q → ChangeRequest → Result OpenValues ℕ → Moment P T F Q
   changing_moment s u x y =
       let z = outcome y u (λ a. with_current (with_change a x) u) (λ a. terms_told a (stored_price a x.price) (stored_size a x.size)) in
       record { call = Change x; before = s; stepped = u; after = z.0; answer = answered Stored z.1 }
 
-  did_changing : (s u : RoomState P Q) (x : ChangeRequest) (y : Result OpenAuction ℕ) → changing_in u.current x ≡ y → TermsInside x.size x.member x.own → Did (changing_moment s u x y)
+  did_changing : (s u : RoomState P Q) (x : ChangeRequest) (y : Result OpenValues ℕ) → changing_in u.current x ≡ y → TermsInside x.size x.member x.own → Did (changing_moment s u x y)
   did_changing s u x (Ok a) e i =
       let ok = changing_ok u.current x a e in
       let changed = own_changed x.member x.own (stored_size a x.size) (stored_price a x.price) (a.arrivals + 1) a.values.stood in
@@ -345,20 +345,20 @@ module _ {P T F Q : Type 0} (w : World P T F Q) where
   did_change s x (Some f) e = idle s.halted refl refl (refused_quiet (Change x) _)
 
   -- Withdrawals.
-  withdrawing_ok : (c : Option OpenAuction) (x : WithdrawRequest) (f : OpenAuction × Response) → withdrawing_from c x ≡ Ok f → c ≡ Some f.0
+  withdrawing_ok : (c : Option OpenValues) (x : WithdrawRequest) (f : OpenValues × Response) → withdrawing_from c x ≡ Ok f → c ≡ Some f.0
   withdrawing_ok None x f h = ok_err f _ (sym h)
   withdrawing_ok (Some b) x f h =
       let found = and_then_ok (standing_now (own_response x.member x.own b.values.stood)) (λ y. unless (plain_checked y None) (Ok (b, y))) f h in
       let past = unless_ok (plain_checked found.0 None) (Ok (b, found.0)) f found.2 in
       let same : (b, found.0) ≡ f = let e = past.1 in cc in
-      ap (λ (z : OpenAuction × Response). Some z.0) same
+      ap (λ (z : OpenValues × Response). Some z.0) same
 
-  abbrev withdrawing_moment : RoomState P Q → RoomState P Q → WithdrawRequest → Result (OpenAuction × Response) ℕ → Moment P T F Q
+  abbrev withdrawing_moment : RoomState P Q → RoomState P Q → WithdrawRequest → Result (OpenValues × Response) ℕ → Moment P T F Q
   withdrawing_moment s u x y =
       let z = outcome y u (λ f. with_current (with_withdrawal f.0 x) u) (λ f. terms_told f.0 f.1.price f.1.size) in
       record { call = Withdraw x; before = s; stepped = u; after = z.0; answer = answered Stored z.1 }
 
-  did_withdrawing : (s u : RoomState P Q) (x : WithdrawRequest) (y : Result (OpenAuction × Response) ℕ) → withdrawing_from u.current x ≡ y → Did (withdrawing_moment s u x y)
+  did_withdrawing : (s u : RoomState P Q) (x : WithdrawRequest) (y : Result (OpenValues × Response) ℕ) → withdrawing_from u.current x ≡ y → Did (withdrawing_moment s u x y)
   did_withdrawing s u x (Ok f) e =
       let a = f.0 in
       stored (record {
@@ -381,22 +381,22 @@ module _ {P T F Q : Type 0} (w : World P T F Q) where
   did_withdraw s x (Some f) = idle s.halted refl refl (refused_quiet (Withdraw x) _)
 
   -- Collecting.
-  waiting_ok : (o : Option EndedAuction) (e : EndedAuction) → waiting_now o ≡ Ok e → o ≡ Some e
+  waiting_ok : (o : Option EndedValues) (e : EndedValues) → waiting_now o ≡ Ok e → o ≡ Some e
   waiting_ok None e h = ok_err e _ (sym h)
   waiting_ok (Some x) e h = let same : x ≡ e = cc in ap Some same
 
-  collect_ok : (s : RoomState P Q) (c : ClaimNumbers) (n : ℕ) (e : EndedAuction) → collectable s c n ≡ Ok e → numbered c.auction s.waiting ≡ Some e
+  collect_ok : (s : RoomState P Q) (c : ClaimNumbers) (n : ℕ) (e : EndedValues) → collectable s c n ≡ Ok e → numbered c.auction s.waiting ≡ Some e
   collect_ok s c n e h =
       let long = unless_ok (collect_checks n) _ e h in
       let ours = unless_ok (refuse (not (eqb c.room s.number)) 42 (refuse (is_number c.auction s.current) 41 None)) _ e long.1 in
       waiting_ok (numbered c.auction s.waiting) e ours.1
 
-  abbrev collecting_moment : RoomState P Q → ClaimNumbers → ℕ → RoomState P Q → Result EndedAuction ℕ → Moment P T F Q
+  abbrev collecting_moment : RoomState P Q → ClaimNumbers → ℕ → RoomState P Q → Result EndedValues ℕ → Moment P T F Q
   collecting_moment s c n u y =
       let z = outcome y s (λ e. with_waiting (without_number c.auction s.waiting) s) (λ e. record { count = length (fill_rows w e); cause = e.cause }) in
       record { call = Collect c n; before = s; stepped = u; after = z.0; answer = answered (λ k. Collected k (Rattle.room.specs.Collecting.written w y)) z.1 }
 
-  did_collecting : (s u : RoomState P Q) (c : ClaimNumbers) (n : ℕ) (y : Result EndedAuction ℕ) → u ≡ s → collectable s c n ≡ y → Did (collecting_moment s c n u y)
+  did_collecting : (s u : RoomState P Q) (c : ClaimNumbers) (n : ℕ) (y : Result EndedValues ℕ) → u ≡ s → collectable s c n ≡ y → Did (collecting_moment s c n u y)
   did_collecting s u c n (Ok e) h k =
       collected (record {
         claim = c;

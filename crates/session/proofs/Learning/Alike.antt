@@ -1,7 +1,7 @@
 -- Every list of calls is alike to itself, and of two alike lists it does not matter which comes first.
 use Rattle.std.proofs.Common.{◌≡◌, inl, inr, ℕ, Bool, [], ◌∷◌, sym, refl, subst}
-use Rattle.session.specs.declared.calls.Call.{Call}
-use Rattle.session.specs.declared.calls.Call.TheVariants.{Open, Respond, Change}
+use Rattle.session.specs.declared.call.Call.{Call}
+use Rattle.session.specs.declared.call.Call.TheVariants.{Open, Respond, Change}
 use Rattle.session.specs.Learning.{HiddenOrEqual, hidden_from, price_inside, size_inside, class_inside, Alike, AlikeToItself, AlikeBothWays}
 
 pub one_to_itself : {T : Type 0} (u : ℕ) (c : Call T) → Alike u c c

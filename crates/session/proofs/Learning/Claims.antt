@@ -9,16 +9,16 @@ use Rattle.room.specs.Checks.{collect_checks}
 use Rattle.room.specs.Clock.{due}
 use Rattle.room.specs.Collecting.{CollectionTold, waiting_now, collect_rows}
 use Rattle.room.specs.Refusals.{refuse, unless, outcome}
-use Rattle.room.specs.State.{EndedAuction, RoomState, is_number, numbered, at_time, ended}
+use Rattle.room.specs.State.{EndedValues, RoomState, is_number, numbered, at_time, ended}
 use Rattle.room.specs.World.{World}
 use Rattle.room.proofs.Tests.{none_some}
-use Rattle.session.specs.declared.calls.Call.{Call}
-use Rattle.session.specs.declared.calls.Call.TheVariants.{Open, Respond, Change, Withdraw, Tick, Halt, Resume, Clock, Look, Collect}
+use Rattle.session.specs.declared.call.Call.{Call}
+use Rattle.session.specs.declared.call.Call.TheVariants.{Open, Collect}
 use Rattle.session.specs.Claims.{claim_to}
 use Rattle.session.specs.History.{opened_number, is_collected}
 use Rattle.session.specs.Learning.{opens_here}
-use Rattle.session.specs.Runs.{Answer, Opened, Stored, Accepted, Looked, Collected, Refused, answered, clock_stepped, moment, step}
-use Rattle.session.specs.Sessions.{claim_in, without_claim, purse_after, is_made}
+use Rattle.session.specs.Runs.{Answer, Opened, Collected, answered, clock_stepped, moment, step}
+use Rattle.session.specs.Purse.{claim_in, without_claim, purse_after, is_made}
 use Rattle.session.proofs.Ending.Shapes.{OpenedHere, opened_or_not, did}
 use Rattle.session.proofs.Learning.Hidden.{without_hidden}
 use Rattle.session.proofs.Learning.Known.{Known, known, numbers, numbered_known, waiting_known, collectable_known}
@@ -80,9 +80,9 @@ module _ {P T F Q : Type 0} (w : World P T F Q) (u : ℕ) (s : RoomState P Q) wh
   opening_adds x = opening_adds_by x (opened_or_not w (moment w s (Open x)) (did w s (Open x)))
 
   -- A collecting.
-  collects_by : (a b : Option ℕ) (o : Option EndedAuction) (effect : EndedAuction → RoomState P Q) (tells : EndedAuction → CollectionTold) (fs : List FillRow)
+  collects_by : (a b : Option ℕ) (o : Option EndedValues) (effect : EndedValues → RoomState P Q) (tells : EndedValues → CollectionTold) (fs : List FillRow)
       → is_collected (answered {F = F} (λ k. Collected k fs) (outcome (unless a (unless b (waiting_now o))) s effect tells).1)
-      ≡ is_ok (unless a (unless b (waiting_known (option_map (λ (e : EndedAuction). e.number) o))))
+      ≡ is_ok (unless a (unless b (waiting_known (option_map (λ (e : EndedValues). e.number) o))))
   collects_by (Some f) b o effect tells fs = refl
   collects_by None (Some f) o effect tells fs = refl
   collects_by None None None effect tells fs = refl

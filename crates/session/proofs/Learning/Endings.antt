@@ -8,27 +8,27 @@ use Rattle.std.specs.Option.{option_map}
 use Rattle.allocation.specs.declared.response.Response.{Response}
 use Rattle.allocation.specs.Auction.{with_stood}
 use Rattle.room.specs.Clock.{due, clocked}
-use Rattle.room.specs.State.{OpenAuction, EndedAuction, RoomState, is_number, closed, at_time, with_current, ended}
+use Rattle.room.specs.State.{OpenValues, EndedValues, RoomState, is_number, closed, at_time, with_current, ended}
 use Rattle.session.specs.Learning.{ends_of, ends_here}
 use Rattle.session.specs.Runs.{Moment}
 use Rattle.session.proofs.Learning.Known.{Known, KnownAuction, known, known_auction, own_rows, own_count, numbers, closed_known, due_known, ended_known, settled, clocked_known, with_auction_known}
 use Rattle.std.specs.Str.{byte}
 
 -- The open auction is open no longer.
-abbrev pub ends_in : Option OpenAuction → Option OpenAuction → Bool
+abbrev pub ends_in : Option OpenValues → Option OpenValues → Bool
 ends_in None after = false
 ends_in (Some a) after = eqb a.number a.number && not (is_number a.number after)
 
-pub gone_ends : (a : OpenAuction) → ends_in (Some a) None ≡ true
+pub gone_ends : (a : OpenValues) → ends_in (Some a) None ≡ true
 gone_ends a = ap (λ b. b && true) (eq-eqb a.number a.number refl)
 
-pub kept_ends_not : (a b : OpenAuction) → b.number ≡ a.number → ends_in (Some a) (Some b) ≡ false
+pub kept_ends_not : (a b : OpenValues) → b.number ≡ a.number → ends_in (Some a) (Some b) ≡ false
 kept_ends_not a b h =
     ap (λ n. eqb a.number a.number && not (eqb n a.number)) h
     ∙ ap (λ c. c && not c) (eq-eqb a.number a.number refl)
 
 module _ {P T F Q : Type 0} where
-  ends_of_is : (m : Moment P T F Q) (o : Option OpenAuction) → m.before.current ≡ o → ends_of o m ≡ ends_in o m.after.current
+  ends_of_is : (m : Moment P T F Q) (o : Option OpenValues) → m.before.current ≡ o → ends_of o m ≡ ends_in o m.after.current
   ends_of_is m None h = refl
   ends_of_is m (Some a) h = ap (λ o. is_number a.number o && not (is_number a.number m.after.current)) h
 
@@ -36,16 +36,16 @@ module _ {P T F Q : Type 0} where
   pub ends_here_is : (m : Moment P T F Q) → ends_here m ≡ ends_in m.before.current m.after.current
   ends_here_is m = ends_of_is m m.before.current refl
 
-pub closed_follows : (u : ℕ) (c : ℕ) (o : Option OpenAuction) (es : List EndedAuction) → numbers (closed c o es) ≡ closed_known (option_map (known_auction u) o) (numbers es)
+pub closed_follows : (u : ℕ) (c : ℕ) (o : Option OpenValues) (es : List EndedValues) → numbers (closed c o es) ≡ closed_known (option_map (known_auction u) o) (numbers es)
 closed_follows u c None es = refl
-closed_follows u c (Some a) es = map-append (λ (e : EndedAuction). e.number) es (record { number = a.number; values = a.values; cause = c } ∷ [])
+closed_follows u c (Some a) es = map-append (λ (e : EndedValues). e.number) es (record { number = a.number; values = a.values; cause = c } ∷ [])
 
-due_follows : (u t : ℕ) (o : Option OpenAuction) → due_known t (option_map (known_auction u) o) ≡ due t o
+due_follows : (u t : ℕ) (o : Option OpenValues) → due_known t (option_map (known_auction u) o) ≡ due t o
 due_follows u t None = refl
 due_follows u t (Some a) = refl
 
 -- What a member knows of the open auction changes only by its own rows and its own count.
-pub auction_rows : (u : ℕ) (a : OpenAuction) (xs : List Response) (arrivals : ℕ) (used : List ℕ) (ys : List Response) (n : Option ℕ)
+pub auction_rows : (u : ℕ) (a : OpenValues) (xs : List Response) (arrivals : ℕ) (used : List ℕ) (ys : List Response) (n : Option ℕ)
     → own_rows u xs ≡ ys → own_count u used ≡ n
     → known_auction u (record { number = a.number; deadline = a.deadline; values = with_stood a.values xs; arrivals = arrivals; used = used })
     ≡ record {
@@ -99,7 +99,7 @@ module _ {P Q : Type 0} (u : ℕ) where
       ∙ ap (λ b. settled b (known u y)) (sym (due_follows u y.time y.current))
 
   -- The open auction has become another of which the member knows the same.
-  pub with_current_same : (s : RoomState P Q) (a b : OpenAuction) → s.current ≡ Some a → known_auction u b ≡ known_auction u a → known u (with_current b s) ≡ known u s
+  pub with_current_same : (s : RoomState P Q) (a b : OpenValues) → s.current ≡ Some a → known_auction u b ≡ known_auction u a → known u (with_current b s) ≡ known u s
   with_current_same s a b e h =
       ap (λ o. with_auction_known o (known u s)) (ap Some h ∙ ap (option_map (known_auction u)) (sym e))
 

@@ -11,8 +11,8 @@ use Rattle.room.specs.declared.requests.ChangeRequest.{ChangeRequest}
 use Rattle.room.specs.declared.requests.OpeningRequest.{OpeningRequest}
 use Rattle.room.specs.declared.requests.ResponseRequest.{ResponseRequest}
 use Rattle.room.specs.Checks.{price_ok, size_ok}
-use Rattle.session.specs.declared.calls.Call.{Call}
-use Rattle.session.specs.declared.calls.Call.TheVariants.{Open, Respond, Change, Withdraw, Tick, Halt, Resume, Clock, Look, Collect}
+use Rattle.session.specs.declared.call.Call.{Call}
+use Rattle.session.specs.declared.call.Call.TheVariants.{Open, Respond, Change}
 use Rattle.session.specs.Learning.{HiddenOrEqual, price_inside, size_inside, class_inside, OpeningsAlike, ResponsesAlike, ChangesAlike, Alike}
 
 -- A term, or what stands in its place where it is hidden.

@@ -9,7 +9,7 @@ use Rattle.std.specs.Option.{option_map}
 use Rattle.market.specs.declared.quote.Quote.{Quote}
 use Rattle.market.specs.declared.side.Side.{Side}
 use Rattle.market.specs.Range.{RangePrices, permitted, turned_quote}
-use Rattle.market.specs.Turned.{turned}
+use Rattle.market.specs.Side.{turned}
 use Rattle.allocation.specs.declared.order.PairedOrder.{PairedOrder}
 use Rattle.allocation.specs.declared.response.Response.{Response}
 use Rattle.room.specs.declared.answers.AuctionView.{AuctionView}
@@ -24,11 +24,11 @@ use Rattle.room.specs.Openings.{none_used}
 use Rattle.room.specs.Refusals.{RefusalTold, by_number, refuse, unless, and_then, outcome}
 use Rattle.allocation.specs.Table.{own_response, own_changed, without_own}
 use Rattle.room.specs.Responses.{same_side, is_plain, standing_now, plain_checked}
-use Rattle.room.specs.State.{OpenAuction, EndedAuction, RoomState}
+use Rattle.room.specs.State.{OpenValues, EndedValues, RoomState}
 use Rattle.room.specs.Ticks.{floor_now}
 use Rattle.room.specs.World.{World}
-use Rattle.session.specs.declared.calls.Call.{Call}
-use Rattle.session.specs.declared.calls.Call.TheVariants.{Open, Respond, Change, Withdraw, Tick, Halt, Resume, Clock, Look, Collect}
+use Rattle.session.specs.declared.call.Call.{Call}
+use Rattle.session.specs.declared.call.Call.TheVariants.{Open, Respond, Change, Withdraw, Tick, Halt, Resume, Clock, Look, Collect}
 use Rattle.session.specs.Runs.{Answer, Stored, Looked, answered}
 
 -- A response without its arrival number, which would tell of the others' responses and changes.
@@ -56,8 +56,8 @@ counted None = 0
 counted (Some n) = n
 
 -- Of auctions that wait, only their numbers.
-abbrev pub numbers : List EndedAuction → List ℕ
-numbers es = map (λ (e : EndedAuction). e.number) es
+abbrev pub numbers : List EndedValues → List ℕ
+numbers es = map (λ (e : EndedValues). e.number) es
 
 -- What a member can know of the open auction.
 pub record KnownAuction : Type 0 where
@@ -81,7 +81,7 @@ pub record Known (P Q : Type 0) : Type 0 where
   pub waiting : List ℕ
   pub opened : ℕ
 
-abbrev pub known_auction : ℕ → OpenAuction → KnownAuction
+abbrev pub known_auction : ℕ → OpenValues → KnownAuction
 known_auction u a = record {
   number = a.number;
   deadline = a.deadline;

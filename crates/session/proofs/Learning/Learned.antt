@@ -3,7 +3,7 @@
 use Rattle.std.proofs.Common.{◌≡◌, ℕ, List, [], ◌∷◌, map, Option, sym, refl, ap, ◌∙◌}
 use Rattle.room.specs.State.{RoomState, new_room}
 use Rattle.room.specs.World.{World}
-use Rattle.session.specs.declared.calls.Call.{Call}
+use Rattle.session.specs.declared.call.Call.{Call}
 use Rattle.session.specs.Learning.{AllAlike, Alike, MemberSeesTheSame, seen_by, opens_here, ends_here}
 use Rattle.session.specs.Runs.{Answer, step, moment, run_from}
 use Rattle.session.proofs.Learning.Hidden.{without_hidden, same_without_hidden}

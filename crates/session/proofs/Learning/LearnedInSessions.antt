@@ -3,11 +3,12 @@
 use Rattle.std.proofs.Common.{◌≡◌, ℕ, Bool, true, false, cond, List, [], ◌∷◌, map, is_some, Some, None, Option, sym, refl, ap, ◌∙◌}
 use Rattle.room.specs.declared.answers.ClaimNumbers.{ClaimNumbers}
 use Rattle.room.specs.World.{World}
-use Rattle.session.specs.declared.calls.Call.{Call}
+use Rattle.session.specs.declared.call.Call.{Call}
 use Rattle.session.specs.Learning.{AllAlike, Alike, opens_here, ends_here}
 use Rattle.session.specs.Runs.{Answer, Moment, step, moment}
 use Rattle.session.specs.SessionLearning.{ShownTheSame, MemberSeesTheSameInSessions, opens_if_made, ends_if_made, seen_if_made}
-use Rattle.session.specs.Sessions.{Session, session_of, is_made, purse_after, session_after, session_moment, session_moments}
+use Rattle.session.specs.SessionState.{SessionState, session_of, session_after, session_moment, session_moments}
+use Rattle.session.specs.Purse.{is_made, purse_after}
 use Rattle.session.proofs.Learning.Claims.{purse_known, hidden_made, claims_follow}
 use Rattle.session.proofs.Learning.Hidden.{without_hidden, same_without_hidden}
 use Rattle.session.proofs.Learning.Known.{Known, known, known_step}
@@ -26,10 +27,10 @@ record LearnedAt (P F Q : Type 0) : Type 0 where
   pub shown : Option (Answer F)
 
 module _ {P T F Q : Type 0} (w : World P T F Q) (u : ℕ) where
-  abbrev known_session : Session P Q → KnownSession P Q
+  abbrev known_session : SessionState P Q → KnownSession P Q
   known_session s = record { room = known u s.room; purse = s.purse }
 
-  abbrev learned : Session P Q → Option (Moment P T F Q) → LearnedAt P F Q
+  abbrev learned : SessionState P Q → Option (Moment P T F Q) → LearnedAt P F Q
   learned after m = record { then = known_session after; made = is_some m; shown = seen_if_made u m }
 
   -- It follows from what was known before, from the call without what is hidden, from whether it opens an auction, and from
@@ -44,7 +45,7 @@ module _ {P T F Q : Type 0} (w : World P T F Q) (u : ℕ) where
   abbrev learned_step : Bool → Bool → KnownSession P Q → Call T → LearnedAt P F Q
   learned_step opens ends k c = step_by (is_made c k.purse) opens ends k c
 
-  made_follows : (s : Session P Q) (c : Call T)
+  made_follows : (s : SessionState P Q) (c : Call T)
       → let m = moment w s.room c in
       learned (session_of (step w s.room c).0 (purse_after c (step w s.room c).1 s.purse)) (Some m) ≡ made_step (opens_here m) (ends_here m) (known_session s) (without_hidden u c)
   made_follows s c =
@@ -53,13 +54,13 @@ module _ {P T F Q : Type 0} (w : World P T F Q) (u : ℕ) where
       ap (λ (z : Known P Q × Option (Answer F)). record { then = record { room = z.0; purse = purse }; made = true; shown = z.1 }) y
       ∙ ap (λ p. let z = known_step w u (opens_here (moment w s.room c)) (ends_here (moment w s.room c)) (known u s.room) (without_hidden u c) in record { then = record { room = z.0; purse = p }; made = true; shown = z.1 }) (claims_follow w u s.room c s.purse)
 
-  follows_by : (b : Bool) (s : Session P Q) (c : Call T)
+  follows_by : (b : Bool) (s : SessionState P Q) (c : Call T)
       → let m = cond b (Some (moment w s.room c)) None in
       learned (cond b (session_of (step w s.room c).0 (purse_after c (step w s.room c).1 s.purse)) s) m ≡ step_by b (opens_if_made m) (ends_if_made m) (known_session s) (without_hidden u c)
   follows_by true s c = made_follows s c
   follows_by false s c = refl
 
-  session_follows : (s : Session P Q) (c : Call T)
+  session_follows : (s : SessionState P Q) (c : Call T)
       → let m = session_moment w s c in
       learned (session_after w s c) m ≡ learned_step (opens_if_made m) (ends_if_made m) (known_session s) (without_hidden u c)
   session_follows s c =
@@ -68,7 +69,7 @@ module _ {P T F Q : Type 0} (w : World P T F Q) (u : ℕ) where
       ∙ ap (λ b. step_by b (opens_if_made m) (ends_if_made m) (known_session s) (without_hidden u c)) (sym (hidden_made u c s.purse))
 
   -- One call in each session.
-  same_call : (s z : Session P Q) (c d : Call T) → known_session s ≡ known_session z → Alike u c d
+  same_call : (s z : SessionState P Q) (c d : Call T) → known_session s ≡ known_session z → Alike u c d
       → opens_if_made (session_moment w s c) ≡ opens_if_made (session_moment w z d) → ends_if_made (session_moment w s c) ≡ ends_if_made (session_moment w z d)
       → learned (session_after w s c) (session_moment w s c) ≡ learned (session_after w z d) (session_moment w z d)
   same_call s z c d k a o e =
@@ -82,7 +83,7 @@ module _ {P T F Q : Type 0} (w : World P T F Q) (u : ℕ) where
       ∙ sym (session_follows z d)
 
   -- All calls, from sessions of which the same is known.
-  two_sessions : (s z : Session P Q) (cs ds : List (Call T)) → known_session s ≡ known_session z → AllAlike u cs ds
+  two_sessions : (s z : SessionState P Q) (cs ds : List (Call T)) → known_session s ≡ known_session z → AllAlike u cs ds
       → map opens_if_made (session_moments w s cs) ≡ map opens_if_made (session_moments w z ds)
       → map ends_if_made (session_moments w s cs) ≡ map ends_if_made (session_moments w z ds)
       → ShownTheSame u (session_moments w s cs) (session_moments w z ds)

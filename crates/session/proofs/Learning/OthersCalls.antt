@@ -18,7 +18,7 @@ use Rattle.room.specs.Openings.{room_refusal, guarantee_refusal, new_auction, op
 use Rattle.room.specs.Refusals.{RefusalTold, refuse, unless, and_then, outcome}
 use Rattle.allocation.specs.Table.{own_response}
 use Rattle.room.specs.Responses.{as_stored, with_response, with_change, with_withdrawal, plain_below_floor, responded, responding_to, responding, changing_in, changing, withdrawing_from, withdrawing, standing_now, plain_checked, above_checked, used_checked, side_checked, in_use_checked, stored_size, stored_price}
-use Rattle.room.specs.State.{OpenAuction, EndedAuction, RoomState, is_number, numbered, without_number, at_position, with_current, with_waiting, ended}
+use Rattle.room.specs.State.{OpenValues, EndedValues, RoomState, is_number, numbered, without_number, at_position, with_current, with_waiting, ended}
 use Rattle.room.specs.Ticks.{tick_cause, ticked_for, ticked, at_floor, floor_now, ticking_by, ticking}
 use Rattle.room.specs.World.{World}
 use Rattle.session.specs.History.{opened_number}
@@ -32,13 +32,13 @@ use Rattle.std.specs.Str.{byte}
 module _ {P Q : Type 0} (F : Type 0) (u : ℕ) where
   -- Another member's response is stored, and ends the auction or not.
   module _ (s : RoomState P Q) (x : ResponseRequest) (member : 1 ≤ x.member) (other : eqb x.member u ≡ false) where
-    response_unknown : (a : OpenAuction) → s.current ≡ Some a → known u (with_current (with_response a x) s) ≡ known u s
+    response_unknown : (a : OpenValues) → s.current ≡ Some a → known u (with_current (with_response a x) s) ≡ known u s
     response_unknown a e =
         with_current_same u s a (with_response a x) e
         (auction_rows u a (with_response a x).values.stood (with_response a x).arrivals (with_response a x).used _ _
         (others_push u a.values.stood (as_stored a x) other) (own_count_other u x.member a.used member other))
 
-    stored_or_ended : (b : Bool) (a : OpenAuction) → s.current ≡ Some a
+    stored_or_ended : (b : Bool) (a : OpenValues) → s.current ≡ Some a
         → let t = with_current (with_response a x) s in let z = cond b (ended (byte "E") t) t in
         known u z ≡ settled (ends_in (Some a) z.current) (known u s)
     stored_or_ended true a e =
@@ -49,13 +49,13 @@ module _ {P Q : Type 0} (F : Type 0) (u : ℕ) where
         response_unknown a e
         ∙ sym (cond-false (ends_in (Some a) (Some (with_response a x))) (ended_known (known u s)) (known u s) (kept_ends_not a (with_response a x) refl))
 
-    taken_or_refused : (r : Option ℕ) (a : OpenAuction) (tells : OpenAuction → StoredTerms) → s.current ≡ Some a
+    taken_or_refused : (r : Option ℕ) (a : OpenValues) (tells : OpenValues → StoredTerms) → s.current ≡ Some a
         → let z = (outcome {F = F} (unless r (Ok a)) s (λ b. responded s b x) tells).0 in known u z ≡ settled (ends_in (Some a) z.current) (known u s)
     taken_or_refused None a tells e = stored_or_ended (plain_below_floor a x) a e
     taken_or_refused (Some f) a tells e =
         sym (cond-false (ends_in (Some a) s.current) (ended_known (known u s)) (known u s) (ap (ends_in (Some a)) e ∙ kept_ends_not a a refl))
 
-    responding_by : (o : Option OpenAuction) (tells : OpenAuction → StoredTerms) → s.current ≡ o
+    responding_by : (o : Option OpenValues) (tells : OpenValues → StoredTerms) → s.current ≡ o
         → let z = (outcome {F = F} (responding_to o x) s (λ b. responded s b x) tells).0 in known u z ≡ settled (ends_in o z.current) (known u s)
     responding_by None tells e = refl
     responding_by (Some a) tells e =
@@ -78,7 +78,7 @@ module _ {P Q : Type 0} (F : Type 0) (u : ℕ) where
 
   -- Another member's change.
   module _ (s : RoomState P Q) (x : ChangeRequest) (member : 1 ≤ x.member) (other : eqb x.member u ≡ false) where
-    changing_by : (o : Option OpenAuction) (tells : OpenAuction → StoredTerms) → s.current ≡ o
+    changing_by : (o : Option OpenValues) (tells : OpenValues → StoredTerms) → s.current ≡ o
         → known u (outcome {F = F} (changing_in o x) s (λ a. with_current (with_change a x) s) tells).0 ≡ known u s
     changing_by None tells e = refl
     changing_by (Some a) tells e =
@@ -94,7 +94,7 @@ module _ {P Q : Type 0} (F : Type 0) (u : ℕ) where
 
   -- Another member's withdrawal.
   module _ (s : RoomState P Q) (x : WithdrawRequest) (other : eqb x.member u ≡ false) where
-    withdrawing_by : (o : Option OpenAuction) (tells : OpenAuction × Response → StoredTerms) → s.current ≡ o
+    withdrawing_by : (o : Option OpenValues) (tells : OpenValues × Response → StoredTerms) → s.current ≡ o
         → known u (outcome {F = F} (withdrawing_from o x) s (λ f. with_current (with_withdrawal f.0 x) s) tells).0 ≡ known u s
     withdrawing_by None tells e = refl
     withdrawing_by (Some a) tells e =
@@ -114,7 +114,7 @@ opens_in y = is_some (opened_number (answered Opened y))
 -- A tick.
 module _ {P T F Q : Type 0} (w : World P T F Q) (u : ℕ) where
   module _ (s : RoomState P Q) (p : P) where
-    ticked_for_follows : (c : Option ℕ) (a : OpenAuction) (q : Quote)
+    ticked_for_follows : (c : Option ℕ) (a : OpenValues) (q : Quote)
         → let z = ticked_for c (turned_quote a.values.order.side q) (at_position p s) a in let j = at_position_known p (known u s) in
         known u z ≡ cond (ends_in (Some a) z.current) (ended_known j) (with_auction_known (Some (refloored q (known_auction u a))) j)
     ticked_for_follows (Some c) a q =
@@ -126,7 +126,7 @@ module _ {P T F Q : Type 0} (w : World P T F Q) (u : ℕ) where
         let b = at_floor (floor_now (turned_quote a.values.order.side q).floor a.values.floor) a in
         sym (cond-false (ends_in (Some a) (Some b)) (ended_known j) (with_auction_known (Some (refloored q (known_auction u a))) j) (kept_ends_not a b refl))
 
-    ticked_follows : (o : Option OpenAuction) (q : Quote) → s.current ≡ o
+    ticked_follows : (o : Option OpenValues) (q : Quote) → s.current ≡ o
         → let z = ticked o q (at_position p s) in let j = at_position_known p (known u s) in
         known u z ≡ cond (ends_in o z.current) (ended_known j) (with_auction_known (option_map (refloored q) (option_map (known_auction u) o)) j)
     ticked_follows None q e = ap (λ o. with_auction_known (option_map (known_auction u) o) (at_position_known p (known u s))) e
@@ -182,14 +182,14 @@ module _ {P T F Q : Type 0} (w : World P T F Q) (u : ℕ) where
       opening_by s o _ (room_refusal s.halted s.waiting) (permitted o.side o.limit (w.market.shows s.position)) (guarantee_refusal o s.opened)
 
 -- A collecting.
-pub is_number_follows : (u n : ℕ) (o : Option OpenAuction) → is_number_known n (option_map (known_auction u) o) ≡ is_number n o
+pub is_number_follows : (u n : ℕ) (o : Option OpenValues) → is_number_known n (option_map (known_auction u) o) ≡ is_number n o
 is_number_follows u n None = refl
 is_number_follows u n (Some a) = refl
 
 module _ {P T F Q : Type 0} (w : World P T F Q) (u : ℕ) (s : RoomState P Q) (c : ClaimNumbers) where
-  collected_follows : (a b : Option ℕ) (o : Option EndedAuction) (tells : EndedAuction → CollectionTold)
+  collected_follows : (a b : Option ℕ) (o : Option EndedValues) (tells : EndedValues → CollectionTold)
       → known u (outcome {F = F} (unless a (unless b (waiting_now o))) s (λ e. with_waiting (without_number c.auction s.waiting) s) tells).0
-      ≡ collected_by (unless a (unless b (waiting_known (option_map (λ (e : EndedAuction). e.number) o)))) c.auction (known u s)
+      ≡ collected_by (unless a (unless b (waiting_known (option_map (λ (e : EndedValues). e.number) o)))) c.auction (known u s)
   collected_follows (Some f) b o tells = refl
   collected_follows None (Some f) o tells = refl
   collected_follows None None None tells = refl

@@ -13,7 +13,7 @@ use Rattle.room.specs.Clock.{clocked, timed}
 use Rattle.room.specs.Refusals.{RefusalTold, refuse, unless, and_then, outcome}
 use Rattle.allocation.specs.Table.{own_response}
 use Rattle.room.specs.Responses.{same_side, as_stored, with_response, with_change, with_withdrawal, plain_below_floor, responded, responding_to, responding, respond_call, changing_in, changing, change_call, withdrawing_from, withdrawing, withdraw_call, standing_now, plain_checked, stored_size, stored_price, terms_told}
-use Rattle.room.specs.State.{OpenAuction, RoomState, with_current, used_by}
+use Rattle.room.specs.State.{OpenValues, RoomState, with_current, used_by}
 use Rattle.session.proofs.Learning.Known.{Known, KnownAuction, known, known_auction, unnumbered, own_rows, own_count, counted, with_auction_known, settled, with_response_known, with_change_known, with_withdrawal_known, above_known, responding_to_known, changing_in_known, withdrawing_from_known, responded_known, responding_known, changing_known, withdrawing_known, timed_known, terms_known, price_known, size_known}
 use Rattle.session.proofs.Learning.OwnRows.{own_push, own_response_follows, own_changed_follows, without_own_follows, own_count_more, own_count_read}
 use Rattle.session.proofs.Learning.InputChecks.{responding_member, changing_member}
@@ -42,27 +42,27 @@ standing_through f (Some y) r g h p q =
     ap (λ e. unless e (Ok (h (unnumbered y)))) (p y) ∙ ap (λ z. unless (r y) (Ok z)) (q y) ∙ unless_through f (r y) (g y)
 
 -- An own response, change and withdrawal in the open auction.
-with_response_follows : (a : OpenAuction) (x : ResponseRequest) → 1 ≤ x.member
+with_response_follows : (a : OpenValues) (x : ResponseRequest) → 1 ≤ x.member
     → known_auction x.member (with_response a x) ≡ with_response_known (known_auction x.member a) x
 with_response_follows a x h =
     let u = x.member in
     auction_rows u a (with_response a x).values.stood (with_response a x).arrivals (with_response a x).used _ _
     (own_push u a.values.stood (as_stored a x) (eq-eqb u u refl)) (own_count_more u a.used h)
 
-with_change_follows : (a : OpenAuction) (x : ChangeRequest) → 1 ≤ x.member
+with_change_follows : (a : OpenValues) (x : ChangeRequest) → 1 ≤ x.member
     → known_auction x.member (with_change a x) ≡ with_change_known (known_auction x.member a) x
 with_change_follows a x h =
     let u = x.member in
     auction_rows u a (with_change a x).values.stood (with_change a x).arrivals (with_change a x).used _ _
     (own_changed_follows u x.own (stored_size a x.size) (stored_price a x.price) (a.arrivals + 1) a.values.stood) (own_count_more u a.used h)
 
-with_withdrawal_follows : (a : OpenAuction) (x : WithdrawRequest)
+with_withdrawal_follows : (a : OpenValues) (x : WithdrawRequest)
     → known_auction x.member (with_withdrawal a x) ≡ with_withdrawal_known (known_auction x.member a) x
 with_withdrawal_follows a x =
     auction_rows x.member a (with_withdrawal a x).values.stood a.arrivals a.used _ _ (without_own_follows x.member x.own a.values.stood) refl
 
 -- The refusals of a member's own calls are decided by what it knows.
-responding_to_follows : (o : Option OpenAuction) (x : ResponseRequest) → 1 ≤ x.member
+responding_to_follows : (o : Option OpenValues) (x : ResponseRequest) → 1 ≤ x.member
     → responding_to_known (option_map (known_auction x.member) o) x ≡ through (known_auction x.member) (responding_to o x)
 responding_to_follows None x h = refl
 responding_to_follows (Some a) x h =
@@ -76,7 +76,7 @@ responding_to_follows (Some a) x h =
     ∙ ap (λ n. unless (tests (is_some (own_response u x.own a.values.stood)) n) (Ok k)) (own_count_read u a.used h)
     ∙ unless_through (known_auction u) (tests (is_some (own_response u x.own a.values.stood)) (used_by u a.used)) a
 
-changing_in_follows : (o : Option OpenAuction) (x : ChangeRequest) → 1 ≤ x.member
+changing_in_follows : (o : Option OpenValues) (x : ChangeRequest) → 1 ≤ x.member
     → changing_in_known (option_map (known_auction x.member) o) x ≡ through (known_auction x.member) (changing_in o x)
 changing_in_follows None x h = refl
 changing_in_follows (Some a) x h =
@@ -87,10 +87,10 @@ changing_in_follows (Some a) x h =
     ∙ ap (λ o. and_then (standing_now o) (λ y. unless (tests (used_by u a.used) y) (Ok k))) (own_response_follows u x.own a.values.stood)
     ∙ standing_through (known_auction u) (own_response u x.own a.values.stood) (tests (used_by u a.used)) (λ y. a) (λ y. k) (λ y. refl) (λ y. refl)
 
-abbrev known_both : ℕ → OpenAuction × Response → KnownAuction × Response
+abbrev known_both : ℕ → OpenValues × Response → KnownAuction × Response
 known_both u f = (known_auction u f.0, unnumbered f.1)
 
-withdrawing_from_follows : (o : Option OpenAuction) (x : WithdrawRequest)
+withdrawing_from_follows : (o : Option OpenValues) (x : WithdrawRequest)
     → withdrawing_from_known (option_map (known_auction x.member) o) x ≡ through (known_both x.member) (withdrawing_from o x)
 withdrawing_from_follows None x = refl
 withdrawing_from_follows (Some a) x =
@@ -121,7 +121,7 @@ module _ {P Q : Type 0} where
 
   module _ (F : Type 0) where
     -- An own response.
-    responded_follows : (s : RoomState P Q) (a : OpenAuction) (x : ResponseRequest) → 1 ≤ x.member
+    responded_follows : (s : RoomState P Q) (a : OpenValues) (x : ResponseRequest) → 1 ≤ x.member
         → known x.member (responded s a x) ≡ responded_known (known x.member s) (known_auction x.member a) x
     responded_follows s a x h =
         settled_follows x.member (byte "E") (plain_below_floor a x) (with_current (with_response a x) s)

@@ -7,7 +7,7 @@ use Rattle.std.specs.Option.{option_map}
 use Rattle.allocation.specs.declared.response.Response.{Response}
 use Rattle.allocation.specs.Table.{is_of, restored, own_response, own_changed, without_own}
 use Rattle.room.specs.Responses.{}
-use Rattle.room.specs.State.{EndedAuction, numbered, without_number, used_by, one_more}
+use Rattle.room.specs.State.{EndedValues, numbered, without_number, used_by, one_more}
 use Rattle.session.proofs.Choices.{cond_through}
 use Rattle.session.proofs.Learning.Known.{unnumbered, own_rows, entry, own_count, counted, numbers, numbered_known, without_number_known}
 
@@ -140,13 +140,13 @@ own_count_read zero used h = absurd (omega arith)
 own_count_read (suc i) used h = entry_read i used ∙ sym (ap (λ j. get_or used j 0) (one_less i))
 
 -- The numbers of the auctions that wait.
-pub numbered_follows : (n : ℕ) (es : List EndedAuction) → numbered_known n (numbers es) ≡ option_map (λ (e : EndedAuction). e.number) (numbered n es)
+pub numbered_follows : (n : ℕ) (es : List EndedValues) → numbered_known n (numbers es) ≡ option_map (λ (e : EndedValues). e.number) (numbered n es)
 numbered_follows n [] = refl
 numbered_follows n (e ∷ es) =
     ap (λ o. cond (eqb e.number n) (Some e.number) o) (numbered_follows n es)
-    ∙ sym (cond_through (option_map (λ (e : EndedAuction). e.number)) (eqb e.number n) (Some e) (numbered n es))
+    ∙ sym (cond_through (option_map (λ (e : EndedValues). e.number)) (eqb e.number n) (Some e) (numbered n es))
 
-pub without_number_follows : (n : ℕ) (es : List EndedAuction) → numbers (without_number n es) ≡ without_number_known n (numbers es)
+pub without_number_follows : (n : ℕ) (es : List EndedValues) → numbers (without_number n es) ≡ without_number_known n (numbers es)
 without_number_follows n [] = refl
 without_number_follows n (e ∷ es) =
     cond_through numbers (eqb e.number n) es (e ∷ without_number n es)

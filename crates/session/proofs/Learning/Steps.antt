@@ -14,11 +14,11 @@ use Rattle.room.specs.Clock.{clocked, timed}
 use Rattle.room.specs.Looks.{auction_view, look_call}
 use Rattle.room.specs.Openings.{opening, open_call}
 use Rattle.room.specs.Responses.{responding, respond_call, changing, change_call, withdrawing, withdraw_call}
-use Rattle.room.specs.State.{OpenAuction, EndedAuction, RoomState}
+use Rattle.room.specs.State.{OpenValues, EndedValues, RoomState}
 use Rattle.room.specs.Ticks.{ticking}
 use Rattle.room.specs.World.{World}
-use Rattle.session.specs.declared.calls.Call.{Call}
-use Rattle.session.specs.declared.calls.Call.TheVariants.{Open, Respond, Change, Withdraw, Tick, Halt, Resume, Clock, Look, Collect}
+use Rattle.session.specs.declared.call.Call.{Call}
+use Rattle.session.specs.declared.call.Call.TheVariants.{Open, Respond, Change, Withdraw, Tick, Halt, Resume, Clock, Look, Collect}
 use Rattle.session.specs.Learning.{seen_by, opens_here, ends_here}
 use Rattle.session.specs.Runs.{Answer, Stored, Looked, answered, step, moment}
 use Rattle.session.proofs.Learning.Hidden.{opening_without, response_without, change_without, without_hidden}
@@ -35,7 +35,7 @@ settled_over : {P Q : Type 0} (b : Bool) (k : Known P Q) → settled b (ended_kn
 settled_over true k = refl
 settled_over false k = refl
 
-view_follows : (u : ℕ) (o : Option OpenAuction) → option_map auction_view o ≡ option_map view_known (option_map (known_auction u) o)
+view_follows : (u : ℕ) (o : Option OpenValues) → option_map auction_view o ≡ option_map view_known (option_map (known_auction u) o)
 view_follows u None = refl
 view_follows u (Some a) = refl
 
@@ -129,7 +129,7 @@ module _ {P T F Q : Type 0} (w : World P T F Q) (u : ℕ) (s : RoomState P Q) wh
   -- A look.
   look_follows : look_call s ≡ look_known (known u s)
   look_follows =
-      ap (λ n. record { time = s.time; halted = s.halted; waiting = n; auction = option_map auction_view s.current }) (sym (length-map s.waiting (λ (e : EndedAuction). e.number)))
+      ap (λ n. record { time = s.time; halted = s.halted; waiting = n; auction = option_map auction_view s.current }) (sym (length-map s.waiting (λ (e : EndedValues). e.number)))
       ∙ ap (λ a. record { time = s.time; halted = s.halted; waiting = (look_known (known u s)).waiting; auction = a }) (view_follows u s.current)
 
   call_follows : (c : Call T)

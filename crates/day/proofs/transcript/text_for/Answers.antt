@@ -3,14 +3,14 @@ use Rattle.std.proofs.Common.{◌++◌, ◌∙◌, ap, map, vec_items}
 use Rattle.day.specs.Calls.{calls_in}
 use Rattle.day.specs.CarriedOut.{answers_to, room_at, world_at, world_in, world_ranked}
 use Rattle.day.specs.ForMember.{text_for}
-use Rattle.day.specs.Lines.{line_told}
+use Rattle.day.specs.Lines.{line_value}
 use Rattle.day.proofs.LinesMade.{carried_out}
 use Rattle.day.proofs.transcript.text_for.Goals as goal
 
 pub returns : goal.returns
 returns c =
     let terms = c.args.terms in
-    let lines = map line_told (vec_items c.args.lines) in
+    let lines = map line_value (vec_items c.args.lines) in
     let calls = calls_in lines in
     let desk = c.desk_of-desk.result in
     record {

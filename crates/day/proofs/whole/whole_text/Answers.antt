@@ -2,10 +2,10 @@
 use Rattle.std.proofs.Common.{◌++◌, ◌∙◌, ap, map, vec_items}
 use Rattle.market.specs.Cube.{CubePosition, cube_position, cube_start}
 use Rattle.market.specs.Legs.{legs_of}
-use Rattle.session.specs.Desks.{listed_told, told_at_close}
+use Rattle.session.specs.Closed.{listed_told, told_at_close}
 use Rattle.day.specs.Calls.{calls_in}
 use Rattle.day.specs.CarriedOut.{answers_to, room_at, room_behind, world_at, world_in, world_ranked}
-use Rattle.day.specs.Lines.{line_told}
+use Rattle.day.specs.Lines.{line_value}
 use Rattle.day.specs.WholeText.{whole_lines, end_lines}
 use Rattle.day.proofs.LinesMade.{carried_out}
 use Rattle.day.proofs.whole.whole_text.Goals as goal
@@ -14,7 +14,7 @@ pub returns : goal.returns
 returns c =
     let terms = c.args.terms in
     let w = world_in terms in
-    let lines = map line_told (vec_items c.args.lines) in
+    let lines = map line_value (vec_items c.args.lines) in
     let calls = calls_in lines in
     let desk = c.desk_of-desk.result in
     let made = c.desk_of-desk.ensures in

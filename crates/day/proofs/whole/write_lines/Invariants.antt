@@ -5,15 +5,15 @@ use Rattle.std.specs.Vec.Iter.{into_iter_items}
 use Rattle.market.specs.Cube.{cube_position}
 use Rattle.day.specs.Calls.{calls_in}
 use Rattle.day.specs.CarriedOut.{answers_to, room_at, room_behind, world_at}
-use Rattle.day.specs.Lines.{line_told}
+use Rattle.day.specs.Lines.{line_value}
 use Rattle.day.specs.WholeText.{whole_lines}
 use Rattle.day.proofs.whole.write_lines.Given as goal
 
 abbrev pub invariant-loop-line : goal.invariant-loop-line
 invariant-loop-line l =
     let w = world_at l.initial.desk in
-    let rest = map line_told (into_iter_items l.line-iterator) in
-    let all = map line_told (into_iter_items l.initial.line-iterator) in
+    let rest = map line_value (into_iter_items l.line-iterator) in
+    let all = map line_value (into_iter_items l.initial.line-iterator) in
     record {
       text : string_bytes l.text ++ whole_lines (cube_position l.market) rest (answers_to w (room_at l.desk) (calls_in rest))
           ≡ string_bytes l.initial.text ++ whole_lines (cube_position l.fn.market) all (answers_to w (room_at l.initial.desk) (calls_in all));

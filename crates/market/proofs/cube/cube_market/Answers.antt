@@ -1,7 +1,7 @@
 -- The law over any ticks is one of the definitions, from the start at which the pile is made.
 use Rattle.std.proofs.Common.{ap, ◌∙◌}
 use Rattle.market.specs.Cube.{cube_meaning}
-use Rattle.market.specs.History.{after}
+use Rattle.market.specs.CubeHistory.{after}
 use Rattle.market.specs.Legs.{legs_of}
 use Rattle.market.proofs.CubeLastQuotes.{shows_last_quotes}
 use Rattle.market.proofs.cube.cube_market.Goals as goal

@@ -4,10 +4,10 @@ use Rattle.std.specs.Str.{byte}
 use Rattle.room.specs.Rooms.{claim_numbers, collected_answer, state_of, world_of}
 use Rattle.room.specs.Clock.{due}
 use Rattle.room.specs.State.{RoomState, at_time, ended}
-use Rattle.session.specs.declared.calls.Call.TheVariants.{Halt}
+use Rattle.session.specs.declared.call.Call.TheVariants.{Halt}
 use Rattle.session.specs.Claims.{claims_to}
-use Rattle.session.specs.Sessions.{session_of}
-use Rattle.session.proofs.ClaimsKept.{match_kept}
+use Rattle.session.specs.SessionState.{session_of}
+use Rattle.session.proofs.Claims.{match_kept}
 use Rattle.session.proofs.Closing.{first_collected, ok_as_told}
 use Rattle.room_examples.proofs.claims.settle.Goals as goal
 

@@ -1,9 +1,9 @@
 -- The two calls were made one after another, each as the contract of its method says.
 use Rattle.std.proofs.Common.{List, [], ◌∷◌, map, ap, refl, subst, sym}
-use Rattle.market.specs.Meaning.{told_by}
+use Rattle.market.specs.Market.{told_by}
 use Rattle.room.specs.Refusals.{refusal_told}
 use Rattle.room.specs.Rooms.{world_of}
-use Rattle.session.specs.declared.calls.Call.TheVariants.{Halt, Look}
+use Rattle.session.specs.declared.call.Call.TheVariants.{Halt, Look}
 use Rattle.session.specs.InTurn.{MethodCall}
 use Rattle.session.specs.Laws.{LawsOfRun}
 use Rattle.session.specs.Runs.{Moment, Accepted, Looked, answered}

@@ -1,6 +1,6 @@
 -- The terms are the laws of the three interfaces.
 use Rattle.room.specs.Rooms.{world_of}
-use Rattle.session.proofs.Promised.{promised}
+use Rattle.session.proofs.Promises.{promised}
 use Rattle.session.proofs.laws.model_keeps_the_promise.Goals as goal
 
 pub returns : goal.returns

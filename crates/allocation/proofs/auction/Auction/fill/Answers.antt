@@ -7,7 +7,7 @@ use Rattle.allocation.specs.declared.fill.FillRow.{FillRow}
 use Rattle.allocation.specs.declared.response.Key.{Key}
 use Rattle.allocation.specs.Auction.{auction_values, told_of, auction_fills, LevelsInRankingOrder}
 use Rattle.allocation.specs.OnlyRows.{LawfulRows}
-use Rattle.allocation.specs.Rankings.{by_key}
+use Rattle.allocation.specs.Ranking.{by_key}
 use Rattle.allocation.specs.Table.{standing}
 use Rattle.allocation.proofs.FillProved.{Fillable, Ranks, terms_hold, fills_are_lawful, written_front, written_past}
 use Rattle.allocation.proofs.LevelFacts.{ordered_classes}

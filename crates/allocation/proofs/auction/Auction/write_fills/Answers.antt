@@ -5,12 +5,12 @@ use Rattle.std.proofs.lemmas.List.{length-take}
 use Rattle.allocation.specs.declared.auction.Auction.{Auction}
 use Rattle.allocation.specs.declared.order.ContraTerms.{ContraTerms}
 use Rattle.allocation.specs.declared.response.Response.{Response}
-use Rattle.allocation.specs.Arranged.{arranged}
+use Rattle.allocation.specs.Arrange.{arranged}
 use Rattle.allocation.specs.Auction.{auction_values, auction_fills}
-use Rattle.allocation.specs.FillList.{contra_terms, fills}
+use Rattle.allocation.specs.Fill.{contra_terms, fills}
 use Rattle.allocation.specs.Levels.{contra_level, levels}
 use Rattle.allocation.specs.LevelSteps.{Sound}
-use Rattle.allocation.specs.Rankings.{by_key}
+use Rattle.allocation.specs.Ranking.{by_key}
 use Rattle.allocation.specs.Table.{standing}
 use Rattle.allocation.specs.Walk.{walked}
 use Rattle.allocation.proofs.FillProved.{terms_hold, all_sized, sound_arranged, walked_levels}

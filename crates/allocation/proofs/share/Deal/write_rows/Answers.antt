@@ -1,8 +1,8 @@
 -- The whole parts take no more than the contracts, so what is odd can be counted; dealing from the first response on is the
 -- sharing; and no size is above all that is asked for.
 use Rattle.std.proofs.Common.{◌≤◌, ◌-◌, ap, ◌∙◌, arith}
-use Rattle.allocation.specs.FillList.{class_rows}
-use Rattle.allocation.specs.Shares.{sizes, total, parts_total, dealt}
+use Rattle.allocation.specs.Fill.{class_rows}
+use Rattle.allocation.specs.Share.{sizes, total, parts_total, dealt}
 use Rattle.allocation.proofs.ShareFacts.{parts_within, none_odd, size_within, dealt_within}
 use Rattle.allocation.proofs.Writes.{no_response}
 use Rattle.allocation.proofs.share.Deal.write_rows.Goals as goal

@@ -1,8 +1,8 @@
 -- The rows so far, and then those of the responses left, dealt with the odd contracts that are left, are all the rows of the
 -- sharing. Where all that is asked for is had, none is odd.
 use Rattle.std.proofs.Common.{◌≡◌, ◌++◌, take, drop}
-use Rattle.allocation.specs.FillList.{class_rows, shared_rows}
-use Rattle.allocation.specs.Shares.{sizes, dealt}
+use Rattle.allocation.specs.Fill.{class_rows, shared_rows}
+use Rattle.allocation.specs.Share.{sizes, dealt}
 use Rattle.allocation.proofs.share.Deal.write_rows.Given as goal
 
 abbrev pub invariant-loop-i : goal.invariant-loop-i

@@ -1,6 +1,6 @@
 -- To deal the lesser of k and all that is asked for is to share k.
 use Rattle.std.proofs.Common.{min, ap, ◌∙◌}
-use Rattle.allocation.specs.FillList.{class_rows, shared_rows}
+use Rattle.allocation.specs.Fill.{class_rows, shared_rows}
 use Rattle.allocation.proofs.ShareFacts.{shared_min}
 use Rattle.allocation.proofs.share.Standing.share.Goals as goal
 

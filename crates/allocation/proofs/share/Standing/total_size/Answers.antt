@@ -3,7 +3,7 @@ use Rattle.std.proofs.Common.{◌≡◌, sym, ◌∙◌, arith, rules}
 use Rattle.std.proofs.lemmas.Iterator.{YieldsList-from_slice, YieldsList-from_map}
 use Rattle.std.proofs.lemmas.Iterator.Consumers.{YieldsList-at, sum_from_yields_List}
 use Rattle.allocation.specs.declared.response.Response.{Response}
-use Rattle.allocation.specs.Shares.{sizes, total}
+use Rattle.allocation.specs.Share.{sizes, total}
 use Rattle.allocation.proofs.ShareFacts.{total_is, total_most}
 use Rattle.allocation.proofs.share.Standing.total_size.Goals as goal
 

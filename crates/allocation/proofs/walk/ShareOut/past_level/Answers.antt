@@ -1,7 +1,7 @@
 -- The plan at the front is the walk's level with its split, and its rows are written behind those so far; those past them stay.
 use Rattle.std.proofs.Common.{◌≡◌, ◌+◌, ◌++◌, take, drop, ap, ◌∙◌, w64, to_z, of_z}
 use Rattle.std.proofs.lemmas.Int.{to_z-of_z}
-use Rattle.allocation.specs.FillList.{level_rows, split_at}
+use Rattle.allocation.specs.Fill.{level_rows, split_at}
 use Rattle.allocation.specs.LevelSteps.{front_level}
 use Rattle.allocation.specs.Plans.{planned_level}
 use Rattle.allocation.specs.Walk.{walk_level, walk_split}

@@ -5,9 +5,9 @@ use Rattle.std.specs.Str.Lines.{lines}
 use Rattle.std.proofs.lemmas.Iterator.Consumers.{map_from_collect}
 use Rattle.std.proofs.lemmas.Iterator.Splits.{YieldsList-from_lines}
 use Rattle.std.proofs.lemmas.List.{drop_all, append-nil}
-use Rattle.script.specs.Setups.{Told, told_of, nothing_told, room_in, room_told}
-use Rattle.day.specs.Lines.{Line, line_told, lines_said, told_behind_lines}
-use Rattle.day.proofs.LinesRead.{one_read, one_told, room_told_made}
+use Rattle.script.specs.Setup.{Settings, settings_of, no_settings, room_in, room_values}
+use Rattle.day.specs.Lines.{Line, line_value, lines_from, settings_behind_lines}
+use Rattle.day.proofs.LinesRead.{one_read, one_told, room_values_made}
 use Rattle.day.proofs.lines.Script.read.Goals as goal
 
 pub loop-before-init : goal.loop-before-init
@@ -16,10 +16,10 @@ loop-before-init c =
     let collected = map_from_collect c.collect.result c.collect.ensures.ran (YieldsList-from_lines c.args.text.now c.lines.ensures.rest) in
     let held = subst (λ r. IfOk r (λ w. map (λ x. x.now) (vec_items w) ≡ lines c.args.text.now)) c.in_ok-all.was collected in
     let all : map (λ x. x.now) xs ≡ lines c.args.text.now = ap (map (λ x. x.now)) c.deref-line-items.ensures.value ∙ held in (
-      ap (λ (x : List Line). x ++ lines_said (told_of c.new-setup.result) 1 (map (λ x. x.now) xs)) (ap (map line_told) c.new-lines.ensures.items)
-          ∙ ap (λ (t : Told). lines_said t 1 (map (λ x. x.now) xs)) c.new-setup.ensures
-          ∙ ap (lines_said nothing_told 1) all,
-      ap (λ (t : Told). told_behind_lines t (map (λ x. x.now) xs)) c.new-setup.ensures ∙ ap (told_behind_lines nothing_told) all,
+      ap (λ (x : List Line). x ++ lines_from (settings_of c.new-setup.result) 1 (map (λ x. x.now) xs)) (ap (map line_value) c.new-lines.ensures.items)
+          ∙ ap (λ (t : Settings). lines_from t 1 (map (λ x. x.now) xs)) c.new-setup.ensures
+          ∙ ap (lines_from no_settings 1) all,
+      ap (λ (t : Settings). settings_behind_lines t (map (λ x. x.now) xs)) c.new-setup.ensures ∙ ap (settings_behind_lines no_settings) all,
     )
 
 pub loop-before-preserved : goal.loop-before-preserved
@@ -30,9 +30,9 @@ loop-before-preserved c =
     let end = c.loop-before.auto.before-end in
     let inside : (i < length xs) = omega arith in
     let did = c.in_ok-read_line.ensures in
-    let t = told_of c.loop-before.setup in
-    let u = told_of c.read_line.new.setup in (
-      one_read (λ x. x.now) xs i (record { ref_ptr = (0, 0); now = [] }) (map line_told c.loop-before.lines.items) (map line_told c.read_line.new.lines.items) t u inside did.lines did.told
+    let t = settings_of c.loop-before.setup in
+    let u = settings_of c.read_line.new.setup in (
+      one_read (λ x. x.now) xs i (record { ref_ptr = (0, 0); now = [] }) (map line_value c.loop-before.lines.items) (map line_value c.read_line.new.lines.items) t u inside did.lines did.told
           ∙ c.loop-before.invariant.0,
       one_told (λ x. x.now) xs i (record { ref_ptr = (0, 0); now = [] }) t u inside did.told ∙ c.loop-before.invariant.1,
     )
@@ -43,7 +43,7 @@ returns-clause-lines c =
     let end = c.loop-before.auto.before-end in
     let none = drop_all c.loop-before.before c.deref-line-items.result.now (omega arith) in
     sym (append-nil _)
-    ∙ ap (λ left. map line_told c.loop-before.lines.items ++ lines_said (told_of c.loop-before.setup) (c.loop-before.before + 1) (map (λ x. x.now) left)) (sym none)
+    ∙ ap (λ left. map line_value c.loop-before.lines.items ++ lines_from (settings_of c.loop-before.setup) (c.loop-before.before + 1) (map (λ x. x.now) left)) (sym none)
     ∙ c.loop-before.invariant.0
 
 pub returns-clause-room : goal.returns-clause-room
@@ -51,5 +51,5 @@ returns-clause-room c =
     let test = c.loop-before-test.false in
     let end = c.loop-before.auto.before-end in
     let none = drop_all c.loop-before.before c.deref-line-items.result.now (omega arith) in
-    let told = ap (λ left. told_behind_lines (told_of c.loop-before.setup) (map (λ x. x.now) left)) (sym none) ∙ c.loop-before.invariant.1 in
-    ap (option_map room_told) c.ok.ensures.value ∙ room_told_made c.room.result _ (c.room.ensures.answer ∙ ap room_in told)
+    let told = ap (λ left. settings_behind_lines (settings_of c.loop-before.setup) (map (λ x. x.now) left)) (sym none) ∙ c.loop-before.invariant.1 in
+    ap (option_map room_values) c.ok.ensures.value ∙ room_values_made c.room.result _ (c.room.ensures.answer ∙ ap room_in told)

@@ -1,6 +1,6 @@
 -- Each sum on the way stays small enough for the next leg to be added.
 use Rattle.std.proofs.Common.{Some, ap, ◌∙◌, arith}
-use Rattle.market.specs.LegSteps.{sum_with}
+use Rattle.market.specs.Leg.{sum_with}
 use Rattle.market.specs.LegsBounded.{wider_at, fourth_within, third_within, second_within}
 use Rattle.market.proofs.legs.Legs.sum.Goals as goal
 

@@ -1,9 +1,9 @@
 -- After the call, too, the desk holds the claims to the auctions of its room, and no others.
 use Rattle.std.proofs.Common.{sym, ap, ◌∙◌}
 use Rattle.session.specs.Claims.{claims_of_room, claims_to}
-use Rattle.session.specs.Made.{session_now, session_world}
-use Rattle.session.specs.Sessions.{Session}
-use Rattle.session.proofs.ClaimsKept.{match_kept}
+use Rattle.session.specs.Session.{session_now, session_world}
+use Rattle.session.specs.SessionState.{SessionState}
+use Rattle.session.proofs.Claims.{match_kept}
 use Rattle.session.proofs.desk.Desk.call.Goals as goal
 
 pub invariant_of-self-2 : goal.invariant_of-self-2
@@ -14,7 +14,7 @@ invariant_of-self-2 g c =
     let after = c.make_call.ensures.session in
     record {
       all_held =
-          ap (λ (s : Session g.M.Market.Position g.S.IntervalSource.Position). s.purse) after
+          ap (λ (s : SessionState g.M.Market.Position g.S.IntervalSource.Position). s.purse) after
           ∙ match_kept w (session_now g.M.Market.position g.S.IntervalSource.position before) c.args.call held
-          ∙ sym (ap (λ (s : Session g.M.Market.Position g.S.IntervalSource.Position). claims_to s.room) after);
+          ∙ sym (ap (λ (s : SessionState g.M.Market.Position g.S.IntervalSource.Position). claims_to s.room) after);
     }

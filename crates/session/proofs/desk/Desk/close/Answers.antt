@@ -5,9 +5,9 @@ use Rattle.room.specs.Rooms.{claim_numbers, state_of, world_of}
 use Rattle.room.specs.State.{RoomState, with_waiting}
 use Rattle.room.specs.World.{World}
 use Rattle.session.specs.Claims.{claims_to}
-use Rattle.session.specs.Desks.{first_of, told_of_ended, told_of_waiting}
+use Rattle.session.specs.Closed.{first_of, told_of_ended, told_of_waiting}
 use Rattle.session.proofs.Closing.{two_told, emptied, none_left, none_of_none}
-use Rattle.session.proofs.Promised.{closed_by_calls}
+use Rattle.session.proofs.Promises.{closed_by_calls}
 use Rattle.session.proofs.desk.Desk.close.Goals as goal
 
 pub destroy_empty-requires : goal.destroy_empty-requires

@@ -1,14 +1,13 @@
 -- After a run, too, the desk holds the claims to the auctions of its room, and no others; and where no call was made all is as it
 -- was.
-use Rattle.std.proofs.Common.{◌≡◌, Ok, Err, IfOk, OnErr, Vec, Result, List, vec_items, sym, ap, ◌∙◌}
+use Rattle.std.proofs.Common.{◌≡◌, Ok, Err, IfOk, OnErr, Result, List, vec_items, sym, ap, ◌∙◌}
 use Rattle.room.specs.World.{World}
-use Rattle.session.specs.declared.answers.Answer.{Answer}
-use Rattle.session.specs.declared.calls.Call.{Call}
-use Rattle.session.specs.declared.session.Session.{Session}
+use Rattle.session.specs.declared.answer.Answer.{Answer}
+use Rattle.session.specs.declared.call.Call.{Call}
+use Rattle.session.specs.declared.Session.{Session}
 use Rattle.session.specs.Claims.{claims_of_room, claims_to}
-use Rattle.session.specs.Made.{session_now, session_world}
-use Rattle.session.specs.SessionRuns.{RunAsModelled}
-use Rattle.session.proofs.ClaimsKept.{match_at_end}
+use Rattle.session.specs.Session.{session_now, session_world, RunAsModelled}
+use Rattle.session.proofs.Claims.{match_at_end}
 use Rattle.session.proofs.desk.Desk.run.Goals as goal
 
 held_by : {M R S P T D F Q A B : Type 0} (fault : D → F) (position : M → P) (source : S → Q) (w : World P T F Q) (items : A → List (Answer D)) (before after : Session M R S) (calls : List (Call T)) (result : Result A B)

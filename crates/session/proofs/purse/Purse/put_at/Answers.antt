@@ -2,8 +2,8 @@
 use Rattle.std.proofs.Common.{if◌then◌else◌, is_ok, map, ap, ◌∙◌, vec_items}
 use Rattle.std.specs.List.{insert}
 use Rattle.room.specs.Rooms.{claim_numbers}
-use Rattle.session.specs.Purses.{PurseValue}
-use Rattle.session.proofs.ClaimsHeld.{map_insert}
+use Rattle.session.specs.Purse.{PurseValue}
+use Rattle.session.proofs.Purses.{map_insert}
 use Rattle.session.proofs.purse.Purse.put_at.Goals as goal
 
 pub returns-clause-numbers : goal.returns-clause-numbers

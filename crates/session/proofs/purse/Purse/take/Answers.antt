@@ -5,9 +5,8 @@ use Rattle.std.specs.List.{insert}
 use Rattle.std.specs.Option.{option_map}
 use Rattle.std.proofs.lemmas.List.Quantifiers.{position-Some}
 use Rattle.room.specs.Rooms.{claim_numbers}
-use Rattle.session.specs.Purses.{PurseValue, taken_numbers}
-use Rattle.session.specs.Sessions.{same_claim}
-use Rattle.session.proofs.ClaimsHeld.{taken, none_taken, put_back}
+use Rattle.session.specs.Purse.{PurseValue, taken_numbers, same_claim}
+use Rattle.session.proofs.Purses.{taken, none_taken, put_back}
 use Rattle.session.proofs.purse.Purse.take.Goals as goal
 
 pub returns-in_err-at-clause-claim : goal.returns-in_err-at-clause-claim
