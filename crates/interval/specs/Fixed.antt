@@ -6,9 +6,10 @@ use Rattle.interval.specs.declared.refusal.IntervalRefusal.{IntervalRefusal}
 use Rattle.interval.specs.Refusal.{interval_refusal_number}
 use Rattle.interval.specs.Source.{SourceMeaning}
 
--- What is made of a length in milliseconds: an interval of that length, or refusal 8 for one outside 100 to 1,000.
-abbrev pub fixed_made : ℕ → Result ℕ ℕ
-fixed_made n = cond (nat_le 100 n && nat_le n 1000) (Ok n) (Err 8)
+-- What is made of a length in milliseconds: an interval of that length, or refusal 8 for one outside 100 to
+-- 1,000.
+abbrev pub new_fixed : ℕ → Result ℕ ℕ
+new_fixed n = cond (nat_le 100 n && nat_le n 1000) (Ok n) (Err 8)
 
 -- The length of an interval that was made, or the refusal's number.
 abbrev pub fixed_length : Result FixedInterval IntervalRefusal → Result ℕ ℕ

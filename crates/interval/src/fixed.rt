@@ -14,11 +14,11 @@ pub struct FixedInterval {
 
 impl FixedInterval {
     ghost use Rattle.std.specs.Prelude.{◌≡◌};
-    ghost use Rattle.interval.specs.Fixed.{fixed_length, fixed_made};
+    ghost use Rattle.interval.specs.Fixed.{fixed_length, new_fixed};
 
     /// A source of this length in milliseconds. A length outside 100 to 1,000 is refused.
     pub fn new(length: u32) -> Result<FixedInterval, IntervalRefusal>
-        ensures { fixed_length result ≡ fixed_made length }
+        ensures { fixed_length result ≡ new_fixed length }
     {
         if !(LEAST..=MOST).contains(&length) {
             return Err(IntervalRefusal::LengthOutsideLimits);

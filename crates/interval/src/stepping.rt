@@ -1,7 +1,7 @@
 //! A stepping interval: each draw steps a seed and answers a length that follows from it.
 ghost use Rattle.std.specs.Prelude.{◌≡◌, ℕ};
 ghost use Rattle.std.proofs.Common.{rules};
-ghost use Rattle.interval.specs.Stepping.{stepped, drawn, stepping_meaning};
+ghost use Rattle.interval.specs.Stepping.{next_seed, next_length, stepping_meaning};
 
 use crate::source::{IntervalSource, LEAST, MOST};
 
@@ -19,7 +19,7 @@ pub struct SteppingInterval {
 
 // The seed that follows, in 32 bits.
 fn next_seed(seed: u32) -> u32
-    ensures { result ≡ stepped seed }
+    ensures { result ≡ next_seed seed }
 {
     FACTOR.wrapping_mul(seed).wrapping_add(SUMMAND)
 }
@@ -43,8 +43,8 @@ impl IntervalSource for SteppingInterval {
     ghost in_limits = { Prim.search rules };
 
     fn draw(&mut self) -> u32
-        ensures answer { result ≡ drawn self.old.seed }
-        ensures next { self.new.seed ≡ stepped self.old.seed }
+        ensures answer { result ≡ next_length self.old.seed }
+        ensures next { self.new.seed ≡ next_seed self.old.seed }
     {
         self.seed = next_seed(self.seed);
         LEAST + self.seed % LENGTHS

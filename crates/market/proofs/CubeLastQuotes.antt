@@ -8,7 +8,7 @@ use Rattle.market.specs.declared.leg.LegTick.{LegTick}
 use Rattle.market.specs.declared.quote.Quote.{Quote}
 use Rattle.market.specs.BetterOf.{better_quote}
 use Rattle.market.specs.Cube.{CubeTicks, cube_start, cube_meaning, cube_quote}
-use Rattle.market.specs.CubeHistory.{after, last_or, book_quotes, leg_quotes, last_book, with_last_quote, legs_from, last_legs}
+use Rattle.market.specs.CubeHistory.{position_after, last_or, book_quotes, leg_quotes, last_book, with_last_quote, legs_from, last_legs}
 use Rattle.market.specs.Improve.{improved_quote}
 use Rattle.market.specs.Leg.{tick_answer, with_quote}
 use Rattle.market.specs.Legs.{legs_answer, legs_next, quote_leg, smallest_ratio, legs_quote}
@@ -109,7 +109,7 @@ legs_more count ls t ts e = go (is_ok (tick_answer count t)) refl
         ap (λ b. legs_from count 1 (cond b (quote_leg t.leg t.quote ls) ls) ts) (answers ∙ h) ∙ sym none
 
 -- the whole position after any ticks
-after_is : (b : Quote) (m n : ℕ) (ls : List Leg) (ts : CubeTicks) → after cube_meaning ((b, m), (ls, n)) ts ≡ ((last_or b (book_quotes ts), m), (legs_from (length ls) 1 ls ts, n))
+after_is : (b : Quote) (m n : ℕ) (ls : List Leg) (ts : CubeTicks) → position_after cube_meaning ((b, m), (ls, n)) ts ≡ ((last_or b (book_quotes ts), m), (legs_from (length ls) 1 ls ts, n))
 after_is b m n ls [] = ap (λ xs. ((b, m), (xs, n))) (sym (none_yet (length ls) 1 ls))
 after_is b m n ls (Left q ∷ ts) =
     let ih = after_is (touch_next b q) m n ls ts in
@@ -128,7 +128,7 @@ same_ratio count n [] ts = refl
 same_ratio count n (l ∷ ls) ts = ap (min l.ratio) (same_ratio count (suc n) ls ts)
 
 -- what the CUBE market shows after any ticks
-pub shows_last_quotes : (ls : List Leg) (ts : CubeTicks) → cube_meaning.shows (after cube_meaning (cube_start ls) ts) ≡ cube_quote (last_book ts) (last_legs ls ts)
+pub shows_last_quotes : (ls : List Leg) (ts : CubeTicks) → cube_meaning.shows (position_after cube_meaning (cube_start ls) ts) ≡ cube_quote (last_book ts) (last_legs ls ts)
 shows_last_quotes ls ts =
     ap cube_meaning.shows (after_is nothing_shown 1 (smallest_ratio ls) ls ts)
     ∙ ap (λ n. better_quote (improved_quote 1 (last_book ts)) (improved_quote n (legs_quote (last_legs ls ts)))) (sym (same_ratio (length ls) 1 ls ts))

@@ -10,9 +10,9 @@ use Rattle.market.specs.declared.quote.Quote.{Quote}
 use Rattle.market.specs.declared.side.Side.{Side}
 use Rattle.market.specs.declared.side.Side.TheVariants.{Buy, Sell}
 use Rattle.market.specs.Limits.{in_limits}
-use Rattle.market.specs.Range.{RangePrices, turned_quote, range_from, range_faced, permitted}
-use Rattle.market.specs.RangeLaws.{Gives, PlainPrices, mirrored, as_sell, RangeLaws}
-use Rattle.market.specs.Side.{turned}
+use Rattle.market.specs.Range.{RangePrices, turned_quote, range_from, range_faced, permitted_range}
+use Rattle.market.specs.RangeLaws.{Gives, PlainPrices, mirror_of, as_sell, RangeLaws}
+use Rattle.market.specs.Side.{turned_price}
 use Rattle.market.specs.LegsBounded.{turned_within}
 
 below : (side : Side) (limit floor contra : ℤ) → (limit <ℤ floor) ⊎ (contra <ℤ floor) → result_err (range_from side limit floor contra) ≡ Some 15
@@ -36,8 +36,8 @@ above side limit floor contra h k =
     )
 
 -- inside its limits a limit price is judged by what is shown
-judged : (side : Side) (limit : ℤ) (q : Quote) → in_limits (Some limit) ≡ true → permitted side limit q ≡ range_faced side (turned side limit) (turned_quote side q).floor (turned_quote side q).contra
-judged side limit q h = rw h
+permitted_inside : (side : Side) (limit : ℤ) (q : Quote) → in_limits (Some limit) ≡ true → permitted_range side limit q ≡ range_faced side (turned_price side limit) (turned_quote side q).floor (turned_quote side q).contra
+permitted_inside side limit q h = rw h
 
 no_floor_is : (side : Side) (limit : ℤ) (floor contra : Option ℤ) → floor ≡ None → result_err (range_faced side limit floor contra) ≡ Some 14
 no_floor_is side limit floor contra e = rw e
@@ -62,18 +62,18 @@ sell_faced limit None contra = refl
 sell_faced limit (Some f) None = refl
 sell_faced limit (Some f) (Some c) = sell_from limit f c
 
-mirrors : (limit : ℤ) (q : Quote) → permitted Sell limit q ≡ as_sell (permitted Buy (neg_ℤ limit) (mirrored q))
+mirrors : (limit : ℤ) (q : Quote) → permitted_range Sell limit q ≡ as_sell (permitted_range Buy (neg_ℤ limit) (mirror_of q))
 mirrors limit q =
-    let judge : Bool → Result RangePrices ℕ = λ b. as_sell (cond b (range_faced Buy (neg_ℤ limit) (mirrored q).bid (mirrored q).offer) (Err 2)) in
+    let judge : Bool → Result RangePrices ℕ = λ b. as_sell (cond b (range_faced Buy (neg_ℤ limit) (mirror_of q).bid (mirror_of q).offer) (Err 2)) in
     by (in_limits (Some limit)) ∙ ap judge (sym (turned_within 40000000 Sell limit))
   where
-    by : (b : Bool) → cond b (range_faced Sell (neg_ℤ limit) (mirrored q).bid (mirrored q).offer) (Err 2) ≡ as_sell (cond b (range_faced Buy (neg_ℤ limit) (mirrored q).bid (mirrored q).offer) (Err 2))
-    by true = sell_faced (neg_ℤ limit) (mirrored q).bid (mirrored q).offer
+    by : (b : Bool) → cond b (range_faced Sell (neg_ℤ limit) (mirror_of q).bid (mirror_of q).offer) (Err 2) ≡ as_sell (cond b (range_faced Buy (neg_ℤ limit) (mirror_of q).bid (mirror_of q).offer) (Err 2))
+    by true = sell_faced (neg_ℤ limit) (mirror_of q).bid (mirror_of q).offer
     by false = refl
 
--- a range that is given has the lower of limit and contra price, which is not below the floor
-given_from : (side : Side) (limit floor contra : ℤ) (r : RangePrices) → range_from side limit floor contra ≡ Ok r → (record { side = side; floor = floor; contra = contra; initiating = int_min limit contra } ≡ r) × (lt_z (int_min limit contra) floor ≡ false)
-given_from side limit floor contra r e = go (lt_z (int_min limit contra) floor) refl
+-- a range has the lower of limit and contra price, which is not below the floor
+range_from_ok : (side : Side) (limit floor contra : ℤ) (r : RangePrices) → range_from side limit floor contra ≡ Ok r → (record { side = side; floor = floor; contra = contra; initiating = int_min limit contra } ≡ r) × (lt_z (int_min limit contra) floor ≡ false)
+range_from_ok side limit floor contra r e = go (lt_z (int_min limit contra) floor) refl
   where
     prices : RangePrices
     prices = record { side = side; floor = floor; contra = contra; initiating = int_min limit contra }
@@ -88,13 +88,13 @@ given_from side limit floor contra r e = go (lt_z (int_min limit contra) floor) 
         (cc, k)
 
 -- and its limit price is inside the limits
-given_faced : (side : Side) (limit : ℤ) (q : Quote) (r : RangePrices) → permitted side limit q ≡ Ok r → range_faced side (turned side limit) (turned_quote side q).floor (turned_quote side q).contra ≡ Ok r
-given_faced side limit q r e = go (in_limits (Some limit)) refl
+permitted_ok : (side : Side) (limit : ℤ) (q : Quote) (r : RangePrices) → permitted_range side limit q ≡ Ok r → range_faced side (turned_price side limit) (turned_quote side q).floor (turned_quote side q).contra ≡ Ok r
+permitted_ok side limit q r e = go (in_limits (Some limit)) refl
   where
-    go : (b : Bool) → in_limits (Some limit) ≡ b → range_faced side (turned side limit) (turned_quote side q).floor (turned_quote side q).contra ≡ Ok r
-    go true k = let same = judged side limit q k in cc
+    go : (b : Bool) → in_limits (Some limit) ≡ b → range_faced side (turned_price side limit) (turned_quote side q).floor (turned_quote side q).contra ≡ Ok r
+    go true k = let same = permitted_inside side limit q k in cc
     go false k =
-        let out : permitted side limit q ≡ Err 2 = rw k in
+        let out : permitted_range side limit q ≡ Err 2 = rw k in
         let z : ◌≡◌ {A = ℕ} 0 1 = cc in
         absurd (omega arith)
 
@@ -104,23 +104,23 @@ buy_prices limit bid offer h = (grind (arith, ints), grind (arith, ints))
 sell_prices : (limit bid offer : ℤ) → lt_z (int_min (neg_ℤ limit) (neg_ℤ bid)) (neg_ℤ offer) ≡ false → PlainPrices Sell limit bid offer (record { side = Sell; floor = neg_ℤ offer; contra = neg_ℤ bid; initiating = int_min (neg_ℤ limit) (neg_ℤ bid) })
 sell_prices limit bid offer h = (grind (arith, ints), grind (arith, ints))
 
-plain : (side : Side) (limit : ℤ) (q : Quote) (bid offer : ℤ) → q.bid ≡ Some bid → q.offer ≡ Some offer → (r : RangePrices) → permitted side limit q ≡ Ok r → PlainPrices side limit bid offer r
-plain Buy limit q bid offer b o r e =
-    let given = given_from Buy limit bid offer r (sym (faced_is Buy limit bid offer q.bid q.offer b o) ∙ given_faced Buy limit q r e) in
+plain_prices_hold : (side : Side) (limit : ℤ) (q : Quote) (bid offer : ℤ) → q.bid ≡ Some bid → q.offer ≡ Some offer → (r : RangePrices) → permitted_range side limit q ≡ Ok r → PlainPrices side limit bid offer r
+plain_prices_hold Buy limit q bid offer b o r e =
+    let given = range_from_ok Buy limit bid offer r (sym (faced_is Buy limit bid offer q.bid q.offer b o) ∙ permitted_ok Buy limit q r e) in
     subst (PlainPrices Buy limit bid offer) given.0 (buy_prices limit bid offer given.1)
-plain Sell limit q bid offer b o r e =
+plain_prices_hold Sell limit q bid offer b o r e =
     let floor = ap (option_map neg_ℤ) o in
     let contra = ap (option_map neg_ℤ) b in
-    let given = given_from Sell (neg_ℤ limit) (neg_ℤ offer) (neg_ℤ bid) r (sym (faced_is Sell (neg_ℤ limit) (neg_ℤ offer) (neg_ℤ bid) (option_map neg_ℤ q.offer) (option_map neg_ℤ q.bid) floor contra) ∙ given_faced Sell limit q r e) in
+    let given = range_from_ok Sell (neg_ℤ limit) (neg_ℤ offer) (neg_ℤ bid) r (sym (faced_is Sell (neg_ℤ limit) (neg_ℤ offer) (neg_ℤ bid) (option_map neg_ℤ q.offer) (option_map neg_ℤ q.bid) floor contra) ∙ permitted_ok Sell limit q r e) in
     subst (PlainPrices Sell limit bid offer) given.0 (sell_prices limit bid offer given.1)
 
-pub range_laws : (side : Side) (limit : ℤ) (q : Quote) → RangeLaws side limit q (permitted side limit q)
+pub range_laws : (side : Side) (limit : ℤ) (q : Quote) → RangeLaws side limit q (permitted_range side limit q)
 range_laws side limit q = record {
   outside_limits = λ h. rw h;
-  no_floor = λ h e. ap result_err (judged side limit q h) ∙ no_floor_is side (turned side limit) (turned_quote side q).floor (turned_quote side q).contra e;
-  no_contra = λ h e. ap result_err (judged side limit q h) ∙ no_contra_is side (turned side limit) (turned_quote side q).floor (turned_quote side q).contra e;
-  below_floor = λ h f c e k low. ap result_err (judged side limit q h ∙ faced_is side (turned side limit) f c (turned_quote side q).floor (turned_quote side q).contra e k) ∙ below side (turned side limit) f c low;
-  in_range = λ h f c e k l m. subst (λ r. Gives r side f c (turned side limit)) (sym (judged side limit q h ∙ faced_is side (turned side limit) f c (turned_quote side q).floor (turned_quote side q).contra e k)) (above side (turned side limit) f c l m);
-  plain_prices = plain side limit q;
-  sell_mirrors_buy = λ e. ap (λ s. permitted s limit q) e ∙ mirrors limit q;
+  no_floor = λ h e. ap result_err (permitted_inside side limit q h) ∙ no_floor_is side (turned_price side limit) (turned_quote side q).floor (turned_quote side q).contra e;
+  no_contra = λ h e. ap result_err (permitted_inside side limit q h) ∙ no_contra_is side (turned_price side limit) (turned_quote side q).floor (turned_quote side q).contra e;
+  below_floor = λ h f c e k low. ap result_err (permitted_inside side limit q h ∙ faced_is side (turned_price side limit) f c (turned_quote side q).floor (turned_quote side q).contra e k) ∙ below side (turned_price side limit) f c low;
+  in_range = λ h f c e k l m. subst (λ r. Gives r side f c (turned_price side limit)) (sym (permitted_inside side limit q h ∙ faced_is side (turned_price side limit) f c (turned_quote side q).floor (turned_quote side q).contra e k)) (above side (turned_price side limit) f c l m);
+  plain_prices = plain_prices_hold side limit q;
+  sell_mirrors_buy = λ e. ap (λ s. permitted_range s limit q) e ∙ mirrors limit q;
 }

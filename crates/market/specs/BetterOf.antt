@@ -1,5 +1,6 @@
--- Better-of, over any two markets: the bid is the higher shown, the offer the lower shown, and a half with no price
--- does not count. A tick is for one half; a fault says which half refused, and holds that half's fault whole.
+-- Better-of, over any two markets: the bid is the higher shown, the offer the lower shown, and a half with
+-- no price does not count. A tick is for one half; a fault says which half refused, and holds that half's
+-- fault whole.
 use Rattle.std.specs.Prelude.{ℤ, Some, None, Option, Result}
 use Rattle.std.specs.Int.{int_max, int_min}
 use Rattle.market.specs.declared.better_of.Half.{Half}
@@ -8,20 +9,20 @@ use Rattle.market.specs.declared.quote.Quote.{Quote}
 use Rattle.market.specs.Market.{Meaning, told_by}
 
 -- The higher of two bids; no price does not count.
-abbrev pub higher : Option ℤ → Option ℤ → Option ℤ
-higher None y = y
-higher (Some x) None = Some x
-higher (Some x) (Some y) = Some (int_max x y)
+abbrev pub higher_bid : Option ℤ → Option ℤ → Option ℤ
+higher_bid (Some x) (Some y) = Some (int_max x y)
+higher_bid x None = x
+higher_bid None y = y
 
 -- The lower of two offers; no price does not count.
-abbrev pub lower : Option ℤ → Option ℤ → Option ℤ
-lower None y = y
-lower (Some x) None = Some x
-lower (Some x) (Some y) = Some (int_min x y)
+abbrev pub lower_offer : Option ℤ → Option ℤ → Option ℤ
+lower_offer (Some x) (Some y) = Some (int_min x y)
+lower_offer x None = x
+lower_offer None y = y
 
 -- Both.
 abbrev pub better_quote : Quote → Quote → Quote
-better_quote p q = record { bid = higher p.bid q.bid; offer = lower p.offer q.offer }
+better_quote p q = record { bid = higher_bid p.bid q.bid; offer = lower_offer p.offer q.offer }
 
 -- What is told of a fault of a half: which half, and what is told of that half's fault.
 abbrev pub half_told : {D E F G : Type 0} → (D → F) → (E → G) → Half D E → Half F G

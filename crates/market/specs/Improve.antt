@@ -1,5 +1,5 @@
--- Improve, over any market, by a step of 1 to 9 cents: the bid a step higher, the offer a step lower, as far as a market
--- shows prices; no price stays no price; ticks and faults pass through.
+-- Improve, over any market, by a step of 1 to 9 cents: the bid a step higher, the offer a step lower, as
+-- far as a market shows prices; no price stays no price; ticks and faults pass through.
 use Rattle.std.specs.Prelude.{ℕ, cond, ℤ, pos, ◌+ℤ◌, ◌-ℤ◌, Ok, Err, Option, Result}
 use Rattle.std.specs.Option.{option_map}
 use Rattle.std.specs.Result.{result_map_both}
@@ -32,8 +32,8 @@ improve_meaning m = record {
 
 module _ {M : Type 0} where
   -- What is made of a market and a step: both, as given, or refusal 9 and the market back.
-  abbrev pub improve_made : M → ℕ → Result (M × ℕ) (ℕ × M)
-  improve_made market step = cond (one_to_nine step) (Ok (market, step)) (Err (9, market))
+  abbrev pub new_improve : M → ℕ → Result (M × ℕ) (ℕ × M)
+  new_improve market step = cond (one_to_nine step) (Ok (market, step)) (Err (9, market))
 
   -- The market and the step that were taken, or the refusal's number with the market.
   abbrev pub improve_parts : Result (Improve M) (SetupRefusal × M) → Result (M × ℕ) (ℕ × M)

@@ -1,4 +1,5 @@
--- Legs: two to four, each bought or sold, made of two, the others added singly. Prices show once every leg is quoted.
+-- Legs: two to four, each bought or sold, made of two, the others added singly. Prices show once every leg
+-- is quoted.
 use Rattle.std.specs.Prelude.{ℕ, ◌-◌, min, cond, ◌&&◌, List, [], ◌∷◌, ◌++◌, length, ℤ, pos, is_ok, Some, None, Ok, Err, Option, Result, ◌==◌, nat_le}
 use Rattle.std.specs.Result.{result_map_both}
 use Rattle.market.specs.declared.leg.Leg.{Leg}
@@ -26,20 +27,20 @@ abbrev pub legs_of : Legs → List Leg
 legs_of s = s.first ∷ (s.second ∷ with_leg s.third (with_leg s.fourth []))
 
 -- Made of two legs: refusal 9 for a ratio outside 1 to 9.
-abbrev pub legs_made : LegTerms → LegTerms → Result (List Leg) ℕ
-legs_made x y = cond (one_to_nine x.ratio && one_to_nine y.ratio) (Ok (new_leg x ∷ (new_leg y ∷ []))) (Err 9)
+abbrev pub new_legs : LegTerms → LegTerms → Result (List Leg) ℕ
+new_legs x y = cond (one_to_nine x.ratio && one_to_nine y.ratio) (Ok (new_leg x ∷ (new_leg y ∷ []))) (Err 9)
 
 -- The legs that were made, or the refusal's number.
-abbrev pub made_legs : Result Legs SetupRefusal → Result (List Leg) ℕ
-made_legs = result_map_both legs_of setup_number
+abbrev pub legs_or_number : Result Legs SetupRefusal → Result (List Leg) ℕ
+legs_or_number = result_map_both legs_of setup_number
 
 -- One leg more: refusal 9 for its ratio, then 10 for a fifth leg.
-abbrev pub legs_add : List Leg → LegTerms → Result (Unit {0}) ℕ
-legs_add ls x = cond (one_to_nine x.ratio) (cond (nat_le 4 (length ls)) (Err 10) (Ok tt)) (Err 9)
+abbrev pub add_answer : List Leg → LegTerms → Result (Unit {0}) ℕ
+add_answer ls x = cond (one_to_nine x.ratio) (cond (nat_le 4 (length ls)) (Err 10) (Ok tt)) (Err 9)
 
 -- An accepted leg stands behind those that are there; a refused one is not there.
-abbrev pub legs_added : List Leg → LegTerms → List Leg
-legs_added ls x = cond (is_ok (legs_add ls x)) (ls ++ new_leg x ∷ []) ls
+abbrev pub add_next : List Leg → LegTerms → List Leg
+add_next ls x = cond (is_ok (add_answer ls x)) (ls ++ new_leg x ∷ []) ls
 
 -- The smallest ratio of the legs; ratios are at most 9.
 abbrev pub smallest_ratio : List Leg → ℕ

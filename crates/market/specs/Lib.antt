@@ -1,5 +1,5 @@
--- The rules of markets and of the range that they permit an order, a file a topic. LegsBounded, BetterOfMarketLemmas and
--- FaultLemmas have lemmas.
+-- The rules of markets and of the range that they permit an order, a file a topic. FaultsApart, LegsBounded
+-- and BetterOfLaws have lemmas, by which the named markets keep the laws of a market.
 pub mod Limits
 pub mod Side
 pub mod Fault
@@ -14,6 +14,6 @@ pub mod Cube
 pub mod CubeHistory
 pub mod Range
 pub mod RangeLaws
-pub mod BetterOfMarketLemmas
-pub mod FaultLemmas
+pub mod FaultsApart
 pub mod LegsBounded
+pub mod BetterOfLaws

@@ -1,5 +1,5 @@
--- Limits of prices, and of ratios and steps. Prices are signed whole cents, what the buyer of the strategy pays for one
--- unit; negative where the buyer receives.
+-- Limits of prices, and of ratios and steps. Prices are signed whole cents, what the buyer of the strategy
+-- pays for one unit; negative where the buyer receives.
 use Rattle.std.specs.Prelude.{ℕ, Bool, true, ◌&&◌, ℤ, pos, neg_ℤ, Some, None, Option, nat_le, unsigned_abs}
 use Rattle.std.specs.Int.{int_max, int_min}
 

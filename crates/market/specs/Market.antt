@@ -4,8 +4,9 @@ use Rattle.std.specs.Result.{result_map_both}
 use Rattle.market.specs.declared.quote.Quote.{Quote}
 use Rattle.market.specs.Limits.{showable}
 
--- A market of positions P, ticks T and faults that are told as F: what a position shows, how it answers a tick, and which
--- position follows. All three follow from the position, and the last two from the tick as well, and from nothing else.
+-- A market of positions P, ticks T and faults that are told as F: what a position shows, how it answers a
+-- tick, and which position follows. All three follow from the position, and the last two from the tick as
+-- well, and from nothing else.
 pub record Meaning (P T F : Type 0) : Type 0 where
   pub shows : P → Quote
   pub answer : P → T → Result (Unit {0}) F

@@ -10,7 +10,8 @@ abbrev pub setup_number : SetupRefusal → ℕ
 setup_number RatioOrStep = 9
 setup_number FifthLeg = 10
 
--- Asking for a range: 2 a price outside the limits, 14 a side that shows no price, 15 an initiating price below the floor.
+-- Asking for a range: 2 a price outside the limits, 14 a side that shows no price, 15 an initiating price
+-- below the floor.
 abbrev pub range_number : RangeRefusal → ℕ
 range_number PriceOutsideLimits = 2
 range_number SideShowsNoPrice = 14

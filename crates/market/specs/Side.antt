@@ -4,9 +4,9 @@ use Rattle.market.specs.declared.side.Side.{Side}
 use Rattle.market.specs.declared.side.Side.TheVariants.{Buy, Sell}
 
 -- The turned price: the price itself for a buy, the price with its sign changed for a sell.
-abbrev pub turned : Side → ℤ → ℤ
-turned Buy z = z
-turned Sell z = neg_ℤ z
+abbrev pub turned_price : Side → ℤ → ℤ
+turned_price Buy z = z
+turned_price Sell z = neg_ℤ z
 
 -- The name of a side, as it is printed.
 abbrev pub side_name : Side → List ℕ

@@ -1,5 +1,5 @@
 -- Touch: a tick gives a bid and an offer, each a price or none; before the first there is none.
-use Rattle.std.specs.Prelude.{Bool, true, cond, ℤ, is_ok, Some, None, Ok, Option, Result, int_lt}
+use Rattle.std.specs.Prelude.{Bool, true, cond, ℤ, is_ok, Some, Ok, Option, Result, int_lt}
 use Rattle.market.specs.declared.quote.Quote.{Quote}
 use Rattle.market.specs.declared.touch.Touch.{Touch}
 use Rattle.market.specs.Fault.{FaultTold, fault}
@@ -11,18 +11,17 @@ abbrev pub touch_quote : Touch → Quote
 touch_quote t = t.quote
 
 -- Where both are given, the bid is below the offer.
-abbrev pub uncrossed : Option ℤ → Option ℤ → Bool
-uncrossed None o = true
-uncrossed (Some b) None = true
-uncrossed (Some b) (Some o) = int_lt b o
+abbrev pub in_order : Option ℤ → Option ℤ → Bool
+in_order (Some b) (Some o) = int_lt b o
+in_order _ _ = true
 
--- Prices are −40,000,000 to 40,000,000, the bid is looked at first (place 0), then the offer (place 1); then, where
--- both are given, the bid is below the offer (place 0).
+-- Prices are −40,000,000 to 40,000,000, the bid is looked at first (place 0), then the offer (place 1);
+-- then, where both are given, the bid is below the offer (place 0).
 abbrev pub touch_answer : Quote → Result (Unit {0}) FaultTold
 touch_answer q =
     cond (in_limits q.bid)
     (cond (in_limits q.offer)
-    (cond (uncrossed q.bid q.offer) (Ok tt) (fault 3 0))
+    (cond (in_order q.bid q.offer) (Ok tt) (fault 3 0))
     (fault 2 1))
     (fault 2 0)
 

@@ -1,9 +1,9 @@
-//! The better of two markets, which are its halves: the higher bid and the lower offer. A tick is for one half.
+//! The better of two markets, which are its halves: the higher bid and the lower offer. A tick is for one
+//! half.
 ghost use Rattle.std.specs.Prelude.{◌≡◌};
-ghost use Rattle.std.proofs.Common.{sym, ap, ◌∙◌, rules};
-ghost use Rattle.market.specs.BetterOf.{higher, lower, better_quote, half_told, half_answer, half_next, better_of_meaning};
-ghost use Rattle.market.specs.BetterOfMarketLemmas.{same_ok};
-ghost use Rattle.market.specs.FaultLemmas.{halves_apart};
+ghost use Rattle.std.proofs.Common.{rules};
+ghost use Rattle.market.specs.BetterOf.{higher_bid, lower_offer, better_quote, half_told, half_answer, half_next, better_of_meaning};
+ghost use Rattle.market.specs.BetterOfLaws.{refused_halves_stay, halves_apart};
 ghost use Rattle.market.specs.Market.{told_by};
 ghost use Rattle.market.specs.declared.better_of.Half.{Half};
 ghost use Rattle.market.specs.declared.better_of.Half.TheVariants.{Left, Right};
@@ -11,15 +11,16 @@ ghost use Rattle.market.specs.declared.better_of.Half.TheVariants.{Left, Right};
 use crate::Market;
 use crate::quote::Quote;
 
-/// What belongs to one half: a tick for it, or its fault. It is no `Result`: neither half is a failure of the other.
+/// What belongs to one half: a tick for it, or its fault. It is no `Result`: neither half is a failure of
+/// the other.
 #[derive(Drop)]
 pub enum Half<S, T> {
     Left(S),
     Right(T),
 }
 
-/// The left half's fault, on its way to the fault of the whole. The right half's is another type, since `From` has to
-/// tell the halves apart where both have faults of one type.
+/// The left half's fault, on its way to the fault of the whole. The right half's is another type, since
+/// `From` has to tell the halves apart where both have faults of one type.
 #[derive(Drop)]
 pub struct InLeft<E> {
     pub fault: E,
@@ -56,18 +57,27 @@ pub struct BetterOf<X, Y> {
     pub(crate) right: Y,
 }
 
-// No price does not count, here and for the lower. The two stay apart: one function would take `max` or `min` as a closure,
-// and a clause on what it answers, each longer than these lines.
-fn higher_of(x: Option<i64>, y: Option<i64>) -> Option<i64>
-    ensures { result ≡ higher x y }
+// The higher of two bids; no price does not count. This and the next stay apart: one function would take
+// `max` or `min` as a closure, and a clause on what it answers, each longer than these lines.
+fn higher_bid(x: Option<i64>, y: Option<i64>) -> Option<i64>
+    ensures { result ≡ higher_bid x y }
 {
-    x.zip(y).map(|(a, b)| a.max(b)).or(x).or(y)
+    match (x, y) {
+        (Some(x), Some(y)) => Some(x.max(y)),
+        (x, None) => x,
+        (None, y) => y,
+    }
 }
 
-fn lower_of(x: Option<i64>, y: Option<i64>) -> Option<i64>
-    ensures { result ≡ lower x y }
+// The lower of two offers; no price does not count.
+fn lower_offer(x: Option<i64>, y: Option<i64>) -> Option<i64>
+    ensures { result ≡ lower_offer x y }
 {
-    x.zip(y).map(|(a, b)| a.min(b)).or(x).or(y)
+    match (x, y) {
+        (Some(x), Some(y)) => Some(x.min(y)),
+        (x, None) => x,
+        (None, y) => y,
+    }
 }
 
 impl<X, Y> BetterOf<X, Y> {
@@ -110,30 +120,32 @@ impl<X: Market, Y: Market> Market for BetterOf<X, Y> {
 
     ghost bounded = { Prim.search rules };
 
-    // A refused tick leaves both halves: the one that it is for by that market's own law, the other since nothing reaches it.
-    ghost refused = { λ p.
-        elim [
-          | Left s ↦ λ h. ap (λ x. (x, p.1)) (X.Market.refused p.0 s (sym (same_ok Left (X.Market.meaning.answer p.0 s)) ∙ h))
-          | Right s ↦ λ h. ap (λ x. (p.0, x)) (Y.Market.refused p.1 s (sym (same_ok Right (Y.Market.meaning.answer p.1 s)) ∙ h))
-        ] };
+    ghost refused = { refused_halves_stay X.Market.meaning Y.Market.meaning
+        X.Market.refused Y.Market.refused };
 
     ghost told_apart = { halves_apart X.Market.told Y.Market.told X.Market.told_apart Y.Market.told_apart };
 
     fn shown(&self) -> Quote
-        ensures answer { result ≡ better_quote (X.Market.meaning.shows (X.Market.position self.now.left)) (Y.Market.meaning.shows (Y.Market.position self.now.right)) }
+        ensures answer { result ≡ better_quote
+            (X.Market.meaning.shows (X.Market.position self.now.left))
+            (Y.Market.meaning.shows (Y.Market.position self.now.right)) }
         ensures leaves { self.exit.now ≡ self.entry.now }
     {
         let left = self.left.shown();
         let right = self.right.shown();
         Quote {
-            bid: higher_of(left.bid, right.bid),
-            offer: lower_of(left.offer, right.offer),
+            bid: higher_bid(left.bid, right.bid),
+            offer: lower_offer(left.offer, right.offer),
         }
     }
 
     fn tick(&mut self, tick: Half<X::Tick, Y::Tick>) -> Result<(), Half<X::Fault, Y::Fault>>
-        ensures answer { told_by (half_told X.Market.told Y.Market.told) result ≡ half_answer X.Market.meaning Y.Market.meaning (X.Market.position self.old.left) (Y.Market.position self.old.right) tick }
-        ensures next { (X.Market.position self.new.left, Y.Market.position self.new.right) ≡ half_next X.Market.meaning Y.Market.meaning (X.Market.position self.old.left) (Y.Market.position self.old.right) tick }
+        ensures answer { told_by (half_told X.Market.told Y.Market.told) result
+            ≡ half_answer X.Market.meaning Y.Market.meaning
+            (X.Market.position self.old.left) (Y.Market.position self.old.right) tick }
+        ensures next { (X.Market.position self.new.left, Y.Market.position self.new.right)
+            ≡ half_next X.Market.meaning Y.Market.meaning
+            (X.Market.position self.old.left) (Y.Market.position self.old.right) tick }
     {
         match tick {
             Half::Left(t) => self.left.tick(t).map_err(|fault| InLeft { fault })?,

@@ -1,7 +1,8 @@
-//! The CUBE market: the better of the complex book, improved by a cent, and the legs, improved by their smallest ratio.
+//! The CUBE market: the better of the complex book, improved by a cent, and the legs, improved by their
+//! smallest ratio.
 ghost use Rattle.std.specs.Prelude.{◌≡◌, List};
 ghost use Rattle.market.specs.Cube.{CubeTicks, cube_position, cube_start, cube_meaning, cube_quote};
-ghost use Rattle.market.specs.CubeHistory.{after, last_book, last_legs};
+ghost use Rattle.market.specs.CubeHistory.{position_after, last_book, last_legs};
 ghost use Rattle.market.specs.Legs.{legs_of};
 
 use crate::better_of::{BetterOf, Half};
@@ -38,7 +39,9 @@ fn pile(legs: Legs) -> CubeMarket
 /// The CUBE market of these legs, before the book's first quote.
 pub fn cube_market(legs: Legs) -> CubeMarket
     ensures made { cube_position result ≡ cube_start (legs_of legs) }
-    ensures last_quotes { (ticks : CubeTicks) → cube_meaning.shows (after cube_meaning (cube_position result) ticks) ≡ cube_quote (last_book ticks) (last_legs (legs_of legs) ticks) }
+    ensures last_quotes { (ticks : CubeTicks)
+        → cube_meaning.shows (position_after cube_meaning (cube_position result) ticks)
+        ≡ cube_quote (last_book ticks) (last_legs (legs_of legs) ticks) }
 {
     pile(legs)
 }

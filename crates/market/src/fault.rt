@@ -27,7 +27,7 @@ impl Cause {
 pub struct Fault {
     /// The first cause there is.
     pub cause: Cause,
-    /// Where it is, a number, as the venue has it, and no enum: for a leg its number as the tick tells it, from 1; for a
-    /// touch 0 at the bid and at a bid that is not below its offer, 1 at the offer.
+    /// Where it is, a number, as the venue has it, and no enum: for a leg its number as the tick tells it;
+    /// for a touch 0 at the bid and at a bid that is not below its offer, 1 at the offer.
     pub place: u32,
 }

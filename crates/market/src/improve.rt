@@ -18,7 +18,7 @@ pub struct Improve<M> {
 }
 
 // A price moved by so many cents, as far as a market shows prices.
-fn moved(price: Option<i64>, by: i64) -> Option<i64>
+fn move_price(price: Option<i64>, by: i64) -> Option<i64>
     requires price { showable price ≡ true }
     requires by { unsigned_abs by ≤ 9 }
     ensures { result ≡ option_map (λ z. nearest_showable (z +ℤ by)) price }
@@ -27,11 +27,12 @@ fn moved(price: Option<i64>, by: i64) -> Option<i64>
 }
 
 impl<M> Improve<M> {
-    ghost use Rattle.market.specs.Improve.{improve_made, improve_parts};
+    ghost use Rattle.market.specs.Improve.{new_improve, improve_parts};
 
-    /// Improves a market by a step of 1 to 9 cents. Another step is refused, and the refusal hands the market back.
+    /// Improves a market by a step of 1 to 9 cents. Another step is refused, and the refusal hands the
+    /// market back.
     pub fn new(market: M, step: u8) -> Result<Improve<M>, (SetupRefusal, M)>
-        ensures { improve_parts result ≡ improve_made market step }
+        ensures { improve_parts result ≡ new_improve market step }
     {
         if !one_to_nine(step) {
             return Err((SetupRefusal::RatioOrStep, market));
@@ -85,20 +86,23 @@ impl<M: Market> Market for Improve<M> {
     ghost told_apart = { M.Market.told_apart };
 
     fn shown(&self) -> Quote
-        ensures answer { result ≡ improved_quote self.now.step (M.Market.meaning.shows (M.Market.position self.now.inner)) }
+        ensures answer { result
+            ≡ improved_quote self.now.step (M.Market.meaning.shows (M.Market.position self.now.inner)) }
         ensures leaves { self.exit.now ≡ self.entry.now }
     {
         let inner = self.inner.shown();
         let step = i64::from(self.step);
         Quote {
-            bid: moved(inner.bid, step),
-            offer: moved(inner.offer, -step),
+            bid: move_price(inner.bid, step),
+            offer: move_price(inner.offer, -step),
         }
     }
 
     fn tick(&mut self, tick: M::Tick) -> Result<(), M::Fault>
-        ensures answer { told_by M.Market.told result ≡ M.Market.meaning.answer (M.Market.position self.old.inner) tick }
-        ensures next { M.Market.position self.new.inner ≡ M.Market.meaning.next (M.Market.position self.old.inner) tick }
+        ensures answer { told_by M.Market.told result
+            ≡ M.Market.meaning.answer (M.Market.position self.old.inner) tick }
+        ensures next { M.Market.position self.new.inner
+            ≡ M.Market.meaning.next (M.Market.position self.old.inner) tick }
         ensures step { self.new.step ≡ self.old.step }
     {
         self.inner.tick(tick)

@@ -8,8 +8,8 @@ ghost use Rattle.market.specs.Market.{told_by};
 use crate::fault::{Cause, Fault};
 use crate::side::Side;
 
-/// A leg's price is 0 to so many cents.
-pub const MOST: i64 = 1_000_000;
+// A leg's price is 0 to so many cents.
+const MOST: i64 = 1_000_000;
 
 /// A leg as it is asked for.
 #[derive(Clone, Copy)]
@@ -37,8 +37,8 @@ pub struct LegTick {
 
 /// A leg with the quote that it took last.
 ///
-/// That both are in order is the invariant of `Legs`, and stands in clauses where a leg is alone: the definitions build
-/// this record, which they could not with an invariant in it.
+/// That both are in order is the invariant of `Legs`, and stands in clauses where a leg is alone: the
+/// definitions build this record, which they could not with an invariant in it.
 #[derive(Clone, Copy)]
 pub struct Leg {
     /// Whether the buyer of the strategy buys the leg or sells it.

@@ -1,6 +1,7 @@
 //! The legs of a strategy, two to four, each bought or sold at a ratio.
-ghost use Rattle.std.specs.Prelude.{◌≡◌, ◌≤◌, true};
-ghost use Rattle.market.specs.Leg.{leg_ok, optional_leg_ok, third_before_fourth, smallest_with, plus, sum_with};
+ghost use Rattle.std.specs.Prelude.{◌≡◌, ◌≤◌, true, min};
+ghost use Rattle.std.specs.Option.{option_map_or};
+ghost use Rattle.market.specs.Leg.{leg_ok, optional_leg_ok, third_before_fourth, leg_part, plus};
 ghost use Rattle.market.specs.Limits.{within};
 
 use crate::Market;
@@ -12,8 +13,8 @@ use crate::refusal::SetupRefusal;
 
 /// The legs of a strategy. A tick is a quote for one of them; prices show once each leg is quoted.
 ///
-/// Four fields, and no list: making legs cannot fail, so they take no heap, and an array could not say that the first
-/// two are always there.
+/// Four fields, and no list: making legs cannot fail, so they take no heap, and an array could not say that
+/// the first two are always there.
 #[derive(Clone, Copy)]
 pub struct Legs {
     first: Leg,
@@ -29,7 +30,7 @@ pub struct Legs {
 
 // The smaller of a ratio and a leg's, if there is one.
 fn smaller(leg: Option<Leg>, ratio: u8) -> u8
-    ensures { result ≡ smallest_with leg ratio }
+    ensures { result ≡ option_map_or (λ l. min l.ratio ratio) leg ratio }
 {
     leg.map_or(ratio, |l| l.ratio.min(ratio))
 }
@@ -47,7 +48,7 @@ fn add(part: Option<i64>, rest: Option<i64>) -> Option<i64>
 fn add_leg(shown: QuoteSide, leg: Option<Leg>, rest: Option<i64>) -> Option<i64>
     requires leg { optional_leg_ok leg ≡ true }
     requires rest { within 27000000 rest ≡ true }
-    ensures { result ≡ sum_with shown leg rest }
+    ensures { result ≡ option_map_or (λ l. plus (leg_part shown l) rest) leg rest }
 {
     leg.map_or(rest, |l| add(l.part_of(shown), rest))
 }
@@ -55,13 +56,13 @@ fn add_leg(shown: QuoteSide, leg: Option<Leg>, rest: Option<i64>) -> Option<i64>
 impl Legs {
     ghost use Rattle.std.specs.Prelude.{length};
     ghost use Rattle.market.specs.Leg.{leg_quote_ok};
-    ghost use Rattle.market.specs.Legs.{legs_of, made_legs, legs_made, legs_add, legs_added, smallest_ratio, legs_sum, quote_leg};
+    ghost use Rattle.market.specs.Legs.{legs_of, legs_or_number, new_legs, add_answer, add_next, smallest_ratio, legs_sum, quote_leg};
     ghost use Rattle.market.specs.Market.{told_by};
     ghost use Rattle.market.specs.Refusal.{setup_number};
 
     /// Two legs, not yet quoted. A ratio that is not 1 to 9 is refused.
     pub fn new(first: LegTerms, second: LegTerms) -> Result<Legs, SetupRefusal>
-        ensures { made_legs result ≡ legs_made first second }
+        ensures { legs_or_number result ≡ new_legs first second }
     {
         if !one_to_nine(first.ratio) || !one_to_nine(second.ratio) {
             return Err(SetupRefusal::RatioOrStep);
@@ -74,10 +75,11 @@ impl Legs {
         })
     }
 
-    /// Adds one leg more, not yet quoted. A ratio that is not 1 to 9 is refused, and then a fifth leg; the legs stay.
+    /// Adds one leg more, not yet quoted. A ratio that is not 1 to 9 is refused, and then a fifth leg; the
+    /// legs stay.
     pub fn add(&mut self, leg: LegTerms) -> Result<(), SetupRefusal>
-        ensures answer { told_by setup_number result ≡ legs_add (legs_of self.old) leg }
-        ensures after { legs_of self.new ≡ legs_added (legs_of self.old) leg }
+        ensures answer { told_by setup_number result ≡ add_answer (legs_of self.old) leg }
+        ensures after { legs_of self.new ≡ add_next (legs_of self.old) leg }
     {
         if !one_to_nine(leg.ratio) {
             return Err(SetupRefusal::RatioOrStep);
@@ -133,14 +135,13 @@ impl Legs {
 
 impl Market for Legs {
     ghost use Rattle.std.specs.Prelude.{List};
-    ghost use Rattle.std.proofs.Common.{arith, rules};
+    ghost use Rattle.std.proofs.Common.{rules};
     ghost use Rattle.market.specs.Fault.{FaultTold, fault_told};
-    ghost use Rattle.market.specs.FaultLemmas.{faults_apart};
-    ghost use Rattle.market.specs.Legs.{legs_of, legs_quote, legs_answer, legs_next, legs_meaning, legs_sum};
-    ghost use Rattle.market.specs.LegsBounded.{wider, legs_sum_within};
+    ghost use Rattle.market.specs.FaultsApart.{faults_apart};
+    ghost use Rattle.market.specs.Legs.{legs_of, legs_quote, legs_answer, legs_next, legs_meaning};
+    ghost use Rattle.market.specs.LegsBounded.{legs_bounded};
     ghost use Rattle.market.specs.Market.{told_by};
     ghost use Rattle.market.specs.declared.leg.Leg.{Leg};
-    ghost use Rattle.market.specs.declared.leg.QuoteSide.TheVariants.{Bid, Offer};
 
     type Tick = LegTick;
 
@@ -156,10 +157,7 @@ impl Market for Legs {
 
     ghost meaning = { legs_meaning };
 
-    ghost bounded = { λ s. (
-      wider 36000000 50000000 (legs_sum Bid (legs_of s)) (omega arith) (legs_sum_within Bid s),
-      wider 36000000 50000000 (legs_sum Offer (legs_of s)) (omega arith) (legs_sum_within Offer s),
-    ) };
+    ghost bounded = { legs_bounded };
 
     ghost refused = { Prim.search rules };
 

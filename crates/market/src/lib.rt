@@ -1,4 +1,5 @@
-//! Markets: what a complex strategy's market shows, how it takes a quote, and which prices it permits an order.
+//! Markets: what a complex strategy's market shows, how it takes a quote, and which prices it permits an
+//! order.
 #![tactic(auto)]
 
 ghost use Rattle.std.specs.Prelude.{◌≡◌};
@@ -45,7 +46,7 @@ pub trait Market {
         ensures answer { result ≡ meaning.shows (position self.now) }
         ensures leaves { position self.exit.now ≡ position self.entry.now };
 
-    /// Takes a tick, or refuses it with its first fault and stays as it was.
+    /// Takes a tick, or refuses it with a fault and stays as it was.
     fn tick(&mut self, tick: Self::Tick) -> Result<(), Self::Fault>
         ensures answer { told_by told result ≡ meaning.answer (position self.old) tick }
         ensures next { position self.new ≡ meaning.next (position self.old) tick };

@@ -3,7 +3,7 @@ ghost use Rattle.std.specs.Prelude.{◌≡◌, true, Some, int_le};
 ghost use Rattle.std.specs.Option.{option_map};
 ghost use Rattle.market.specs.Limits.{in_limits, showable};
 ghost use Rattle.market.specs.Market.{Bounded};
-ghost use Rattle.market.specs.Side.{turned};
+ghost use Rattle.market.specs.Side.{turned_price};
 
 use crate::Market;
 use crate::limits::in_limits;
@@ -13,8 +13,8 @@ use crate::side::Side;
 
 /// What a market shows to an order of one side, on turned prices, in cents.
 ///
-/// That both may be shown stands in the clauses and not in the type: the definitions build this record, which they could
-/// not with an invariant in it.
+/// That both may be shown stands in the clauses and not in the type: the definitions build this record,
+/// which they could not with an invariant in it.
 #[derive(Clone, Copy)]
 pub struct TurnedQuote {
     /// The shown bid; for a sell order the turned offer.
@@ -23,8 +23,8 @@ pub struct TurnedQuote {
     pub contra: Option<i64>,
 }
 
-/// The prices at which an order may trade, in cents: from the floor to the initiating price. They are turned: lower is
-/// better for the order.
+/// The prices at which an order may trade, in cents: from the floor to the initiating price. They are
+/// turned: lower is better for the order.
 #[derive(Clone, Copy)]
 pub struct PermittedRange {
     /// The order's side.
@@ -33,7 +33,7 @@ pub struct PermittedRange {
     pub floor: i64,
     /// The price at which the market itself would trade with the order.
     pub contra: i64,
-    /// The lower of the order's limit and the contra price.
+    /// The lower of the order's limit and the contra price, as `of` makes it.
     pub initiating: i64,
     ghost floor_within: { showable (Some floor) ≡ true },
     ghost contra_within: { showable (Some contra) ≡ true },
@@ -42,9 +42,9 @@ pub struct PermittedRange {
     ghost to_contra: { int_le initiating contra ≡ true },
 }
 
-fn turned_price(side: Side, price: Option<i64>) -> Option<i64>
+fn turn_shown(side: Side, price: Option<i64>) -> Option<i64>
     requires { showable price ≡ true }
-    ensures value { result ≡ option_map (turned side) price }
+    ensures value { result ≡ option_map (turned_price side) price }
     ensures bound { showable result ≡ true }
 {
     price.map(|z| side.turn(z))
@@ -60,8 +60,8 @@ impl TurnedQuote {
         ensures floor { showable result.floor ≡ true }
         ensures contra { showable result.contra ≡ true }
     {
-        let bid = turned_price(side, quote.bid);
-        let offer = turned_price(side, quote.offer);
+        let bid = turn_shown(side, quote.bid);
+        let offer = turn_shown(side, quote.offer);
         match side {
             Side::Buy => TurnedQuote {
                 floor: bid,
@@ -85,12 +85,13 @@ impl TurnedQuote {
 }
 
 impl PermittedRange {
-    ghost use Rattle.market.specs.Range.{permitted, range_from, range_faced, range_answer, range_prices, lowest_price, highest_price};
+    ghost use Rattle.market.specs.Range.{permitted_range, range_from, range_faced, range_answer, range_prices, lowest_price, highest_price};
     ghost use Rattle.market.specs.RangeLaws.{RangeLaws};
 
-    // The range between a floor and the lower of a limit and a contra price, all of them turned. Side and limit come side by
-    // side, as in the public call: a struct of the two would be made by that call and taken apart in the next.
-    fn from_floor(
+    // The range between a floor and the lower of a limit and a contra price, all of them turned. Side and
+    // limit come side by side, as in the public call: a struct of the two would be made by that call and
+    // taken apart in the next.
+    fn between(
         side: Side,
         limit: i64,
         floor: i64,
@@ -114,7 +115,7 @@ impl PermittedRange {
     }
 
     // The range of an order with this turned limit, if both sides show a price.
-    fn faced(side: Side, limit: i64, quote: TurnedQuote) -> Result<PermittedRange, RangeRefusal>
+    fn facing(side: Side, limit: i64, quote: TurnedQuote) -> Result<PermittedRange, RangeRefusal>
         requires limit { showable (Some limit) ≡ true }
         requires floor { showable quote.floor ≡ true }
         requires contra { showable quote.contra ≡ true }
@@ -124,27 +125,22 @@ impl PermittedRange {
             .floor
             .zip(quote.contra)
             .ok_or(RangeRefusal::SideShowsNoPrice)?;
-        Self::from_floor(side, limit, floor, contra)
+        Self::between(side, limit, floor, contra)
     }
 
-    // Each refusal in its order, or the range.
-    fn judged<M: Market>(market: &M, side: Side, limit: i64) -> Result<PermittedRange, RangeRefusal>
-        ensures { range_answer result ≡ permitted side limit (M.Market.meaning.shows (M.Market.position market.now)) }
+    /// The range that a market permits an order of this side with this limit price, which may be any
+    /// number. It is refused where the limit price is outside its limits, then where the market shows no
+    /// bid or no offer, then where the initiating price would be below the floor.
+    pub fn of<M: Market>(market: &M, side: Side, limit: i64) -> Result<PermittedRange, RangeRefusal>
+        ensures answer { range_answer result
+            ≡ permitted_range side limit (M.Market.meaning.shows (M.Market.position market.now)) }
+        ensures laws { RangeLaws side limit
+            (M.Market.meaning.shows (M.Market.position market.now)) (range_answer result) }
     {
         if !in_limits(limit) {
             return Err(RangeRefusal::PriceOutsideLimits);
         }
-        Self::faced(side, side.turn(limit), TurnedQuote::of(market, side))
-    }
-
-    /// The range that a market permits an order of this side with this limit price, which may be any number. It is refused
-    /// where the limit price is outside its limits, then where the market shows no bid or no offer, then where the
-    /// initiating price would be below the floor.
-    pub fn of<M: Market>(market: &M, side: Side, limit: i64) -> Result<PermittedRange, RangeRefusal>
-        ensures answer { range_answer result ≡ permitted side limit (M.Market.meaning.shows (M.Market.position market.now)) }
-        ensures laws { RangeLaws side limit (M.Market.meaning.shows (M.Market.position market.now)) (range_answer result) }
-    {
-        Self::judged(market, side, limit)
+        Self::facing(side, side.turn(limit), TurnedQuote::of(market, side))
     }
 
     /// The lowest permitted price, as the strategy is priced and not turned.
@@ -163,21 +159,21 @@ impl PermittedRange {
 
     /// The contra price, not turned.
     pub fn contra_price(&self) -> i64
-        ensures { result ≡ turned self.now.side self.now.contra }
+        ensures { result ≡ turned_price self.now.side self.now.contra }
     {
         self.side.turn(self.contra)
     }
 
     /// The initiating price, not turned.
     pub fn initiating_price(&self) -> i64
-        ensures { result ≡ turned self.now.side self.now.initiating }
+        ensures { result ≡ turned_price self.now.side self.now.initiating }
     {
         self.side.turn(self.initiating)
     }
 
     /// The floor, not turned.
     pub fn floor_price(&self) -> i64
-        ensures { result ≡ turned self.now.side self.now.floor }
+        ensures { result ≡ turned_price self.now.side self.now.floor }
     {
         self.side.turn(self.floor)
     }

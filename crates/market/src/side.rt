@@ -1,9 +1,8 @@
 //! The side of an order or of a leg.
 ghost use Rattle.std.specs.Prelude.{◌≡◌, true, Some};
 ghost use Rattle.std.specs.Fmt.{padded};
-ghost use Rattle.std.specs.Int.{saturate_to_bits};
 ghost use Rattle.market.specs.Limits.{showable};
-ghost use Rattle.market.specs.Side.{turned, side_name};
+ghost use Rattle.market.specs.Side.{turned_price, side_name};
 
 use std::fmt;
 
@@ -15,14 +14,16 @@ pub enum Side {
 }
 
 impl Side {
-    /// The price itself for a buy, the price with its sign changed for a sell; the least `i64` becomes the greatest.
+    /// The turned price: the price itself for a buy, the price with its sign changed for a sell.
+    ///
+    /// `limits::is_showable` tests what is required.
     pub fn turn(self, price: i64) -> i64
-        ensures value { result ≡ saturate_to_bits 63 (turned self price) }
-        ensures exact { showable (Some price) ≡ true → result ≡ turned self price }
+        requires { showable (Some price) ≡ true }
+        ensures { result ≡ turned_price self price }
     {
         match self {
             Side::Buy => price,
-            Side::Sell => price.saturating_neg(),
+            Side::Sell => -price,
         }
     }
 }

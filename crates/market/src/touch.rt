@@ -24,7 +24,7 @@ fn inside(price: Option<i64>) -> bool
 impl Touch {
     ghost use Rattle.market.specs.Fault.{fault_told};
     ghost use Rattle.market.specs.Market.{nothing_shown, told_by};
-    ghost use Rattle.market.specs.Touch.{touch_quote, touch_answer, uncrossed};
+    ghost use Rattle.market.specs.Touch.{touch_quote, touch_answer, in_order};
 
     /// Before its first quote a touch shows no price.
     pub fn new() -> Self
@@ -37,7 +37,7 @@ impl Touch {
 
     // Where both are given, the bid is below the offer.
     fn in_order(bid: Option<i64>, offer: Option<i64>) -> bool
-        ensures { result ≡ uncrossed bid offer }
+        ensures { result ≡ in_order bid offer }
     {
         bid.zip(offer).is_none_or(|(b, o)| b < o)
     }
@@ -72,7 +72,7 @@ impl Market for Touch {
     ghost use Rattle.std.proofs.Common.{rules, arith};
     ghost use Rattle.market.specs.declared.quote.Quote.{Quote};
     ghost use Rattle.market.specs.Fault.{FaultTold, fault_told};
-    ghost use Rattle.market.specs.FaultLemmas.{faults_apart};
+    ghost use Rattle.market.specs.FaultsApart.{faults_apart};
     ghost use Rattle.market.specs.Market.{told_by};
     ghost use Rattle.market.specs.Touch.{touch_quote, touch_answer, touch_next, touch_meaning};
 
