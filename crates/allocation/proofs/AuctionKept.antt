@@ -3,7 +3,7 @@ use Rattle.std.proofs.Common.{◌≡◌, ℕ, zero, suc, ◌+◌, Bool, true, no
 use Rattle.std.proofs.lemmas.Bool.{and_parts}
 use Rattle.std.proofs.lemmas.Bool.Decides.{nat_tests}
 use Rattle.allocation.specs.AuctionInvariant.{stored_ok, response_ok, each, arrival_free, arrivals_apart}
-use Rattle.allocation.specs.Table.{restored, rewritten, without_place}
+use Rattle.allocation.specs.Table.{with_terms, change_at, without_index}
 use Rattle.allocation.specs.declared.response.Response.{Response}
 
 pub both_left : (a b : Bool) → (a && b) ≡ true → a ≡ true
@@ -22,20 +22,20 @@ apart_push (y ∷ ys) x h k =
     grind (arith, nat_tests, apart_push ys x, each_push (λ (z : Response). not (eqb y.arrival z.arrival)) ys x)
 
 -- what each keeps when it is changed holds of each when one is changed
-pub each_changed : (p : Response → Bool) (i size : ℕ) (price : ℤ) (arrival : ℕ) (xs : List Response) → each p xs ≡ true → ((x : Response) → p x ≡ true → p (restored size price arrival x) ≡ true) → each p (rewritten i size price arrival xs) ≡ true
+pub each_changed : (p : Response → Bool) (i size : ℕ) (price : ℤ) (arrival : ℕ) (xs : List Response) → each p xs ≡ true → ((x : Response) → p x ≡ true → p (with_terms size price arrival x) ≡ true) → each p (change_at i size price arrival xs) ≡ true
 each_changed p i size price arrival [] h k = grind arith
 each_changed p zero size price arrival (x ∷ xs) h k = grind (arith, k x)
 each_changed p (suc i) size price arrival (x ∷ xs) h k = let more = each_changed p i size price arrival xs in grind (arith, k)
 
 -- a response that stands may stand with another size and price
-changed_ok : (most : ℕ) (floor initiating : ℤ) (size : ℕ) (price : ℤ) (arrival : ℕ) (x : Response) → stored_ok most floor initiating size price ≡ true → response_ok most floor initiating x ≡ true → response_ok most floor initiating (restored size price arrival x) ≡ true
+changed_ok : (most : ℕ) (floor initiating : ℤ) (size : ℕ) (price : ℤ) (arrival : ℕ) (x : Response) → stored_ok most floor initiating size price ≡ true → response_ok most floor initiating x ≡ true → response_ok most floor initiating (with_terms size price arrival x) ≡ true
 changed_ok most floor initiating size price arrival x k h = grind arith
 
-pub each_rewritten : (most : ℕ) (floor initiating : ℤ) (i size : ℕ) (price : ℤ) (arrival : ℕ) (xs : List Response) → each (response_ok most floor initiating) xs ≡ true → stored_ok most floor initiating size price ≡ true → each (response_ok most floor initiating) (rewritten i size price arrival xs) ≡ true
+pub each_rewritten : (most : ℕ) (floor initiating : ℤ) (i size : ℕ) (price : ℤ) (arrival : ℕ) (xs : List Response) → each (response_ok most floor initiating) xs ≡ true → stored_ok most floor initiating size price ≡ true → each (response_ok most floor initiating) (change_at i size price arrival xs) ≡ true
 each_rewritten most floor initiating i size price arrival xs h k =
     each_changed (response_ok most floor initiating) i size price arrival xs h (λ (x : Response). changed_ok most floor initiating size price arrival x k)
 
-pub apart_rewritten : (i size : ℕ) (price : ℤ) (arrival : ℕ) (xs : List Response) → arrivals_apart xs ≡ true → arrival_free arrival xs ≡ true → arrivals_apart (rewritten i size price arrival xs) ≡ true
+pub apart_rewritten : (i size : ℕ) (price : ℤ) (arrival : ℕ) (xs : List Response) → arrivals_apart xs ≡ true → arrival_free arrival xs ≡ true → arrivals_apart (change_at i size price arrival xs) ≡ true
 apart_rewritten i size price arrival [] h k = grind arith
 apart_rewritten zero size price arrival (x ∷ xs) h k = grind arith
 apart_rewritten (suc i) size price arrival (x ∷ xs) h k =
@@ -57,5 +57,5 @@ apart_less (suc i) [] h = grind arith
 apart_less zero (x ∷ xs) h = grind arith
 apart_less (suc i) (x ∷ xs) h = grind (arith, each_less (λ (y : Response). not (eqb x.arrival y.arrival)) i xs, apart_less i xs)
 
-pub apart_without : (i : ℕ) (xs : List Response) → arrivals_apart xs ≡ true → arrivals_apart (without_place i xs) ≡ true
+pub apart_without : (i : ℕ) (xs : List Response) → arrivals_apart xs ≡ true → arrivals_apart (without_index i xs) ≡ true
 apart_without i xs h = rw (add-one i) (apart_less i xs h)

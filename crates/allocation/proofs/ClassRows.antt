@@ -5,19 +5,19 @@ use Rattle.std.specs.List.{AllZip, AllByRecursion}
 use Rattle.std.proofs.ByRecursion.{All-map}
 use Rattle.std.proofs.lemmas.Bool.{lt-ltb, cases_lt}
 use Rattle.market.specs.declared.side.Side.{Side}
-use Rattle.market.specs.Side.{turned}
+use Rattle.market.specs.Side.{turned_price}
 use Rattle.allocation.specs.declared.fill.FillRow.{FillRow}
 use Rattle.allocation.specs.declared.response.Class.{Class}
 use Rattle.allocation.specs.declared.response.Response.{Response}
-use Rattle.allocation.specs.FillLaws.{Listed, response_told, listed_of, row_listed, of_response, filled_in, size_in, ProRata}
+use Rattle.allocation.specs.FillLaws.{Listing, stood_response, listing_of, row_listing, of_response, filled_in, size_in, ProRata}
 use Rattle.allocation.specs.Fill.{fill_row, class_rows, shared_rows}
-use Rattle.allocation.specs.Share.{sizes, total, shared}
+use Rattle.allocation.specs.Share.{sizes, total, shares}
 use Rattle.allocation.proofs.LevelShape.{At}
 use Rattle.allocation.proofs.ShareFacts.{Fair, fair_shared, each_same}
 
 -- what a response that stands has to be listed with
-abbrev pub listed : Side → Response → Listed
-listed side x = listed_of (response_told side x)
+abbrev pub listed : Side → Response → Listing
+listed side x = listing_of (stood_response side x)
 
 -- what holds of each response with its share holds of each row
 rows_all : (side : Side) (P : FillRow → Type 0) (Q : Response → Type 0) (R : ℕ → ℕ → Type 0) → ((x : Response) (f : ℕ) → Q x → R x.size f → P (fill_row side x f)) → (xs : List Response) (fs : List ℕ) → AllByRecursion Q xs → AllZip R (sizes xs) fs → AllByRecursion P (class_rows side xs fs)
@@ -25,13 +25,13 @@ rows_all side P Q R g [] fs a e = tt
 rows_all side P Q R g (x ∷ xs) [] a e = tt
 rows_all side P Q R g (x ∷ xs) (f ∷ fs) (q, a) (r, e) = (g x f q r, rows_all side P Q R g xs fs a e)
 
-rows_listed : (side : Side) (xs : List Response) (fs : List ℕ) → AllZip (λ s f. f ≤ s) (sizes xs) fs → map row_listed (class_rows side xs fs) ≡ map (listed side) xs
+rows_listed : (side : Side) (xs : List Response) (fs : List ℕ) → AllZip (λ s f. f ≤ s) (sizes xs) fs → map row_listing (class_rows side xs fs) ≡ map (listed side) xs
 rows_listed side [] fs e = refl
 rows_listed side (x ∷ xs) [] e = absurd e
 rows_listed side (x ∷ xs) (f ∷ fs) (le, e) =
     let size : f + (x.size - f) ≡ x.size = omega arith in
-    ap (λ (n : ℕ). record { member = x.member; own = x.own; price = turned side x.price; class = x.class; kind = x.kind; size = n } ∷ map row_listed (class_rows side xs fs)) size
-    ∙ ap (λ (ts : List Listed). listed side x ∷ ts) (rows_listed side xs fs e)
+    ap (λ (n : ℕ). record { member = x.member; own_number = x.own_number; price = turned_price side x.price; class = x.class; kind = x.kind; size = n } ∷ map row_listing (class_rows side xs fs)) size
+    ∙ ap (λ (ts : List Listing). listed side x ∷ ts) (rows_listed side xs fs e)
 
 rows_filled : (side : Side) (xs : List Response) (fs : List ℕ) → AllZip (λ s f. f ≤ s) (sizes xs) fs → filled_in (class_rows side xs fs) ≡ total fs
 rows_filled side [] [] e = refl
@@ -57,10 +57,10 @@ each_both R S (s ∷ ss) (f ∷ fs) (p, a) (q, b) = ((p, q), each_both R S ss fs
 
 -- rows of responses of class c at a price, which share k contracts and ask for n
 pub record ClassRows (side : Side) (price : ℤ) (c : Class) (k n : ℕ) (xs : List Response) (rows : List FillRow) : Type 0 where
-  pub at_price : AllByRecursion (λ (f : FillRow). f.price ≡ turned side price) rows
+  pub at_price : AllByRecursion (λ (f : FillRow). f.price ≡ turned_price side price) rows
   pub of_class : AllByRecursion (λ (f : FillRow). f.class ≡ c) rows
   pub of_responses : AllByRecursion (λ (f : FillRow). of_response f ≡ true) rows
-  pub listed_are : map row_listed rows ≡ map (listed side) xs
+  pub listed_are : map row_listing rows ≡ map (listed side) xs
   pub filled_is : filled_in rows ≡ k
   pub size_is : size_in rows ≡ n
   pub near : AllByRecursion (ProRata k n) rows
@@ -69,7 +69,7 @@ pub record ClassRows (side : Side) (price : ℤ) (c : Class) (k n : ℕ) (xs : L
 
 pub class_laws : (side : Side) (price : ℤ) (c : Class) (k : ℕ) (xs : List Response) → AllByRecursion (At price c) xs → AllByRecursion (λ (x : Response). 0 < x.member) xs → AllByRecursion (λ (x : Response). 0 < x.size) xs → k ≤ total (sizes xs) → ClassRows side price c k (total (sizes xs)) xs (shared_rows side k xs)
 class_laws side price c k xs here members some le = record {
-  at_price = rows_all side (λ f. f.price ≡ turned side price) (At price c) over (λ x f q _. ap (turned side) q.0) xs fs here each;
+  at_price = rows_all side (λ f. f.price ≡ turned_price side price) (At price c) over (λ x f q _. ap (turned_price side) q.0) xs fs here each;
   of_class = rows_all side (λ f. f.class ≡ c) (At price c) over (λ x f q _. q.1) xs fs here each;
   of_responses = rows_all side (λ f. of_response f ≡ true) (λ x. 0 < x.member) over (λ x f q _. lt-ltb 0 x.member q) xs fs members each;
   listed_are = rows_listed side xs fs each;
@@ -87,19 +87,19 @@ class_laws side price c k xs here members some le = record {
     n = total (sizes xs)
 
     fs : List ℕ
-    fs = shared k (sizes xs)
+    fs = shares k (sizes xs)
 
     over : ℕ → ℕ → Type 0
     over s f = f ≤ s
 
-    fair : Fair k (sizes xs) (shared k (sizes xs))
+    fair : Fair k (sizes xs) (shares k (sizes xs))
     fair = fair_shared k (sizes xs) (All-map (λ s. 0 < s) (λ (x : Response). x.size) xs some)
 
-    each : AllZip (λ s f. f ≤ s) (sizes xs) (shared k (sizes xs))
+    each : AllZip (λ s f. f ≤ s) (sizes xs) (shares k (sizes xs))
     each = fair.none_over
 
-    filled : filled_in (class_rows side xs (shared k (sizes xs))) ≡ k
-    filled = rows_filled side xs (shared k (sizes xs)) each ∙ fair.in_all ∙ omega arith
+    filled : filled_in (class_rows side xs (shares k (sizes xs))) ≡ k
+    filled = rows_filled side xs (shares k (sizes xs)) each ∙ fair.in_all ∙ omega arith
 
     both : ℕ → ℕ → Type 0
     both s f = (f ≤ s) × ((f ≡ k * s / n) ⊎ (f ≡ k * s / n + 1))

@@ -10,12 +10,12 @@ use Rattle.allocation.specs.declared.fill.FillRow.{FillRow}
 use Rattle.allocation.specs.declared.order.ContraTerms.{ContraTerms}
 use Rattle.allocation.specs.declared.order.GuaranteeKind.TheVariants.{SingleStop, AutoMatchLimit}
 use Rattle.allocation.specs.declared.response.Response.{Response}
-use Rattle.allocation.specs.ContraLaws.{of_contra, of_other, row_price, priced_at, priced_below, priced_up_to, got, GuaranteeAllows, Matched, MatchedAll, TooFewToMatch, ContraLaws}
+use Rattle.allocation.specs.ContraLaws.{of_contra, of_other, row_price, priced_at, priced_below, priced_up_to, fill_of, GuaranteeAllows, Matched, MatchedAll, TooFewToMatch, ContraLaws}
 use Rattle.allocation.specs.FillLaws.{of_response, ContraRow}
 use Rattle.allocation.specs.Fill.{split_at, fills}
 use Rattle.allocation.specs.Levels.{Level, contra_level, flat}
 use Rattle.allocation.specs.Share.{sizes, total}
-use Rattle.allocation.specs.Split.{taken}
+use Rattle.allocation.specs.Split.{total_taken}
 use Rattle.allocation.proofs.ClassRows.{rows_none}
 use Rattle.allocation.proofs.ContraRows.{LevelParts, level_parts, CountsHere, CountsAbove, counts_here, counts_above}
 use Rattle.allocation.proofs.ContraSplits.{NoneYet, ContraSplit, contra_split}
@@ -29,58 +29,58 @@ module _ (side : Side) (t : ContraTerms) where
   abbrev Wanted : ℕ → List FillRow → FillRow → FillRow → Type 0
   Wanted m rows f g =
       of_contra f ≡ true → of_response g ≡ true → 0 < g.left → row_price side g ≤ℤ row_price side f
-      → m + got of_contra (priced_up_to side (row_price side f)) rows ≤ t.guaranteed
+      → m + fill_of of_contra (priced_up_to side (row_price side f)) rows ≤ t.guaranteed
 
   abbrev Before : ℕ → List FillRow → FillRow → Type 0
   Before m rows f =
       of_other f ≡ true → 0 < f.filled → t.guarantee.price ≤ℤ row_price side f
-      → (t.guaranteed ≤ m + got of_contra (priced_up_to side (row_price side f)) rows) ⊎ MatchedAll side t.guarantee.kind t.initiating (row_price side f) rows
+      → (t.guaranteed ≤ m + fill_of of_contra (priced_up_to side (row_price side f)) rows) ⊎ MatchedAll side t.guarantee.kind t.initiating (row_price side f) rows
 
   abbrev Beside : ℕ → List FillRow → FillRow → Type 0
   Beside m rows f =
       of_contra f ≡ true → row_price side f <ℤ t.initiating
-      → (m + got of_contra (priced_below side (row_price side f)) rows < t.guaranteed)
-      × ((got of_contra (priced_at side (row_price side f)) rows ≤ got of_response (priced_at side (row_price side f)) rows) ⊎ TooFewToMatch side (row_price side f) rows)
+      → (m + fill_of of_contra (priced_below side (row_price side f)) rows < t.guaranteed)
+      × ((fill_of of_contra (priced_at side (row_price side f)) rows ≤ fill_of of_response (priced_at side (row_price side f)) rows) ⊎ TooFewToMatch side (row_price side f) rows)
 
   abbrev Lacking : ℕ → List FillRow → FillRow → FillRow → Type 0
   Lacking m rows f g =
       of_response f ≡ true → t.guarantee.price ≤ℤ row_price side f → row_price side f <ℤ t.initiating → 0 < g.filled → row_price side f <ℤ row_price side g
-      → (t.guaranteed ≤ m + got of_contra (priced_below side (row_price side f)) rows) ⊎ Matched side (row_price side f) rows
+      → (t.guaranteed ≤ m + fill_of of_contra (priced_below side (row_price side f)) rows) ⊎ Matched side (row_price side f) rows
 
   -- with none from before they are the laws
   none_wanted : (rows : List FillRow) → AllByRecursion (λ f. AllByRecursion (Wanted 0 rows f) rows) rows
       → AllByRecursion (λ (f : FillRow). AllByRecursion (λ (g : FillRow). of_contra f ≡ true → of_response g ≡ true → 0 < g.left → row_price side g ≤ℤ row_price side f
-      → got of_contra (priced_up_to side (row_price side f)) rows ≤ t.guaranteed) rows) rows
+      → fill_of of_contra (priced_up_to side (row_price side f)) rows ≤ t.guaranteed) rows) rows
   none_wanted rows a =
       All-weaker (λ f. AllByRecursion (Wanted 0 rows f) rows) _
       (λ f b. All-weaker (Wanted 0 rows f) _ (λ g h k y some le. omega (arith, h k y some le)) rows b) rows a
 
   none_before : (rows : List FillRow) → AllByRecursion (Before 0 rows) rows
       → AllByRecursion (λ (f : FillRow). of_other f ≡ true → 0 < f.filled → t.guarantee.price ≤ℤ row_price side f
-      → (t.guaranteed ≤ got of_contra (priced_up_to side (row_price side f)) rows) ⊎ MatchedAll side t.guarantee.kind t.initiating (row_price side f) rows) rows
+      → (t.guaranteed ≤ fill_of of_contra (priced_up_to side (row_price side f)) rows) ⊎ MatchedAll side t.guarantee.kind t.initiating (row_price side f) rows) rows
   none_before rows a = All-weaker (Before 0 rows) _ (λ f h k some le. elim (h k some le) [ inl has ↦ inl (omega arith) | inr all ↦ inr all ]) rows a
 
   none_beside : (rows : List FillRow) → AllByRecursion (Beside 0 rows) rows
-      → AllByRecursion (λ (f : FillRow). of_contra f ≡ true → row_price side f <ℤ t.initiating → got of_contra (priced_below side (row_price side f)) rows < t.guaranteed) rows
+      → AllByRecursion (λ (f : FillRow). of_contra f ≡ true → row_price side f <ℤ t.initiating → fill_of of_contra (priced_below side (row_price side f)) rows < t.guaranteed) rows
   none_beside rows a = All-weaker (Beside 0 rows) _ (λ f h k less. omega (arith, (h k less).0)) rows a
 
   none_above_match : (rows : List FillRow) → AllByRecursion (Beside 0 rows) rows
       → AllByRecursion (λ (f : FillRow). of_contra f ≡ true → row_price side f <ℤ t.initiating
-      → (got of_contra (priced_at side (row_price side f)) rows ≤ got of_response (priced_at side (row_price side f)) rows) ⊎ TooFewToMatch side (row_price side f) rows) rows
+      → (fill_of of_contra (priced_at side (row_price side f)) rows ≤ fill_of of_response (priced_at side (row_price side f)) rows) ⊎ TooFewToMatch side (row_price side f) rows) rows
   none_above_match rows a = All-weaker (Beside 0 rows) _ (λ f h k less. (h k less).1) rows a
 
   none_lacking : (rows : List FillRow) → AllByRecursion (λ f. AllByRecursion (Lacking 0 rows f) rows) rows
       → AllByRecursion (λ (f : FillRow). AllByRecursion (λ (g : FillRow). of_response f ≡ true → t.guarantee.price ≤ℤ row_price side f → row_price side f <ℤ t.initiating
       → 0 < g.filled → row_price side f <ℤ row_price side g
-      → (t.guaranteed ≤ got of_contra (priced_below side (row_price side f)) rows) ⊎ Matched side (row_price side f) rows) rows) rows
+      → (t.guaranteed ≤ fill_of of_contra (priced_below side (row_price side f)) rows) ⊎ Matched side (row_price side f) rows) rows) rows
   none_lacking rows a =
       All-weaker (λ f. AllByRecursion (Lacking 0 rows f) rows) _
       (λ f b. All-weaker (Lacking 0 rows f) _ (λ g h y le less some on. elim (h y le less some on) [ inl has ↦ inl (omega arith) | inr as_many ↦ inr as_many ]) rows b) rows a
 
 module _ (side : Side) (t : ContraTerms) (floor : ℤ) (low : floor ≤ℤ contra_level t.guarantee.kind t) (high : t.guarantee.price ≤ℤ t.initiating) where
   -- the contra's own price
-  abbrev own : ℤ
-  own = contra_level t.guarantee.kind t
+  abbrev contra_price : ℤ
+  contra_price = contra_level t.guarantee.kind t
 
   abbrev Standing : List Level → Type 0
   Standing ls = AllByRecursion (Stands floor t.initiating) (flat ls)
@@ -109,33 +109,33 @@ module _ (side : Side) (t : ContraTerms) (floor : ℤ) (low : floor ≤ℤ contr
       (all_both (λ f. row_price side f ≡ l.price) (λ f. of_contra f ≡ true → 0 < (split_at t l r m).contra) Allowed
       (λ f e some k. subst (λ (z : ℤ). GuaranteeAllows t.guarantee.kind t.guarantee.price z) (sym e) ((level_contra l r m).allowed (some k)))
       A (first_at side t floor low high l ls r m h st) (first_parts l ls r m h st).contra_some)
-      (fills_allowed ls (r - taken (split_at t l r m)) (m + (split_at t l r m).contra) holds (later_stand side t floor low high l ls st))
+      (fills_allowed ls (r - total_taken (split_at t l r m)) (m + (split_at t l r m).contra) holds (later_stand side t floor low high l ls st))
 
   -- nothing trades beyond the contra's own price
   abbrev UpToOwn : FillRow → Type 0
-  UpToOwn f = 0 < f.filled → row_price side f ≤ℤ own
+  UpToOwn f = 0 < f.filled → row_price side f ≤ℤ contra_price
 
-  pub fills_up_to_own : (ls : List Level) (r m : ℕ) → AllByRecursion Holds ls → Ascending ls → Standing ls → Ends own r ls → AllByRecursion UpToOwn (fills side t ls r m)
+  pub fills_up_to_own : (ls : List Level) (r m : ℕ) → AllByRecursion Holds ls → Ascending ls → Standing ls → Ends contra_price r ls → AllByRecursion UpToOwn (fills side t ls r m)
   fills_up_to_own [] r m holds up st ends = tt
   fills_up_to_own (l ∷ ls) r m (h, holds) up st ends =
       let A : List FillRow = first side t floor low high l r m in
       All-append UpToOwn A (later side t floor low high l ls r m)
-      (elim (reached own r l ls ends up) [
+      (elim (reached contra_price r l ls ends up) [
         | inl none ↦ All-weaker (λ f. f.filled ≡ 0) UpToOwn (λ f e k. absurd (omega arith)) A
             (rows_none A (omega (arith, (first_laws side t floor low high l ls r m h st).filled_is, (level_split side t floor low high l r m).within)))
-        | inr le ↦ All-weaker (λ f. row_price side f ≡ l.price) UpToOwn (λ f e _. subst (λ (z : ℤ). z ≤ℤ own) (sym e) le) A (first_at side t floor low high l ls r m h st)
+        | inr le ↦ All-weaker (λ f. row_price side f ≡ l.price) UpToOwn (λ f e _. subst (λ (z : ℤ). z ≤ℤ contra_price) (sym e) le) A (first_at side t floor low high l ls r m h st)
       ])
-      (fills_up_to_own ls (r - taken (split_at t l r m)) (m + (split_at t l r m).contra) holds up.1 (later_stand side t floor low high l ls st) (later_ends side t floor low high l ls r m ends))
+      (fills_up_to_own ls (r - total_taken (split_at t l r m)) (m + (split_at t l r m).contra) holds up.1 (later_stand side t floor low high l ls st) (later_ends side t floor low high l ls r m ends))
 
   pub beyond_stop : (rows : List FillRow) → AllByRecursion UpToOwn rows → t.guarantee.kind ≡ SingleStop → AllByRecursion (λ (f : FillRow). 0 < f.filled → row_price side f ≤ℤ t.guarantee.price) rows
   beyond_stop rows a e = subst (λ (z : ℤ). AllByRecursion (λ (f : FillRow). 0 < f.filled → row_price side f ≤ℤ z) rows) (ap (λ k. contra_level k t) e) a
 
   -- under a single stop the contra has nothing before its level, and nothing is left behind it
-  still_none : (l : Level) (r m : ℕ) → NoneYet t.guarantee.kind r m → NoneYet t.guarantee.kind (r - taken (split_at t l r m)) (m + (split_at t l r m).contra)
+  still_none : (l : Level) (r m : ℕ) → NoneYet t.guarantee.kind r m → NoneYet t.guarantee.kind (r - total_taken (split_at t l r m)) (m + (split_at t l r m).contra)
   still_none l r m none e = elim (cases_lt 0 (split_at t l r m).contra) [
     | inl some ↦
         let here : l.price ≡ t.guarantee.price = subst (λ k. GuaranteeAllows k t.guarantee.price l.price) e ((level_contra l r m).allowed some) in
-        let is : own ≡ t.guarantee.price = ap (λ k. contra_level k t) e in
+        let is : contra_price ≡ t.guarantee.price = ap (λ k. contra_level k t) e in
         inr (omega (arith, (level_split side t floor low high l r m).at_own (here ∙ sym is)))
     | inr nothing ↦ elim (none e) [ inl z ↦ inl (omega arith) | inr z ↦ inr (omega arith) ]
   ]
@@ -149,7 +149,7 @@ module _ (side : Side) (t : ContraTerms) (floor : ℤ) (low : floor ≤ℤ contr
     B = later side t floor low high l ls r m
 
     abbrev k : ℕ
-    k = taken (split_at t l r m)
+    k = total_taken (split_at t l r m)
 
     -- the contra's contracts after the level
     abbrev now : ℕ
@@ -189,7 +189,7 @@ module _ (side : Side) (t : ContraTerms) (floor : ℤ) (low : floor ≤ℤ contr
         All-weaker (λ (f : FillRow). of_response f ≡ false → ContraRow f) (λ (f : FillRow). of_contra f ≡ true → 0 < f.filled) (λ f c e. (c (not-true (of_response f) e)).some_filled) B
         (fills_contras side t floor low high ls (r - k) now holds (later_stand side t floor low high l ls st))
 
-    wanted_step : Ends own r (l ∷ ls) → NoneYet t.guarantee.kind r m → AllByRecursion (λ f. AllByRecursion (Wanted side t now B f) B) B → AllByRecursion (λ f. AllByRecursion (Wanted side t m (A ++ B) f) (A ++ B)) (A ++ B)
+    wanted_step : Ends contra_price r (l ∷ ls) → NoneYet t.guarantee.kind r m → AllByRecursion (λ f. AllByRecursion (Wanted side t now B f) B) B → AllByRecursion (λ f. AllByRecursion (Wanted side t m (A ++ B) f) (A ++ B)) (A ++ B)
     wanted_step ends none ih =
         pairs_append W A B
         (all_pairs Some Lack W
@@ -199,7 +199,7 @@ module _ (side : Side) (t : ContraTerms) (floor : ℤ) (low : floor ≤ℤ contr
         (all_pairs here above W (λ f g a b _ _ _ le. absurd (grind (arith, ints))) A B at over)
         (all_pairs Trades (λ g. of_response g ≡ true → 0 < g.left → k ≡ r) W (λ f g a all c y some _. absurd (let z = a.0 (all y some) in omega (arith, a.1 c))) B A
         (all_both (λ f. k ≡ r → f.filled ≡ 0) (λ f. of_contra f ≡ true → 0 < f.filled) Trades (λ f a b. (a, b)) B nones contras)
-        ((first_laws side t floor low high l ls r m h st).lack (reached own r l ls ends up)))
+        ((first_laws side t floor low high l ls r m h st).lack (reached contra_price r l ls ends up)))
         (all_both above (λ f. AllByRecursion (Wanted side t now B f) B) (λ f. AllByRecursion (W f) B)
         (λ f o a. All-weaker (Wanted side t now B f) (W f) (λ g w c y some le. omega (arith, (counted_above f o).contra_up_to, w c y some le)) B a) B over ih)
       where
@@ -292,28 +292,28 @@ module _ (side : Side) (t : ContraTerms) (floor : ℤ) (low : floor ≤ℤ contr
         L : FillRow → FillRow → Type 0
         L = Lacking side t m (A ++ B)
 
-  pub fills_wanted : (ls : List Level) (r m : ℕ) → AllByRecursion Holds ls → Ascending ls → Standing ls → Ends own r ls → NoneYet t.guarantee.kind r m
+  pub fills_wanted : (ls : List Level) (r m : ℕ) → AllByRecursion Holds ls → Ascending ls → Standing ls → Ends contra_price r ls → NoneYet t.guarantee.kind r m
       → AllByRecursion (λ f. AllByRecursion (Wanted side t m (fills side t ls r m) f) (fills side t ls r m)) (fills side t ls r m)
   fills_wanted [] r m holds up st ends none = tt
   fills_wanted (l ∷ ls) r m (h, holds) up st ends none =
       wanted_step l ls r m h holds up st ends none
-      (fills_wanted ls (r - taken (split_at t l r m)) (m + (split_at t l r m).contra) holds up.1 (later_stand side t floor low high l ls st) (later_ends side t floor low high l ls r m ends) (still_none l r m none))
+      (fills_wanted ls (r - total_taken (split_at t l r m)) (m + (split_at t l r m).contra) holds up.1 (later_stand side t floor low high l ls st) (later_ends side t floor low high l ls r m ends) (still_none l r m none))
 
   pub fills_before : (ls : List Level) (r m : ℕ) → AllByRecursion Holds ls → Ascending ls → Standing ls → AllByRecursion (Before side t m (fills side t ls r m)) (fills side t ls r m)
   fills_before [] r m holds up st = tt
   fills_before (l ∷ ls) r m (h, holds) up st =
-      before_step l ls r m h holds up st (fills_before ls (r - taken (split_at t l r m)) (m + (split_at t l r m).contra) holds up.1 (later_stand side t floor low high l ls st))
+      before_step l ls r m h holds up st (fills_before ls (r - total_taken (split_at t l r m)) (m + (split_at t l r m).contra) holds up.1 (later_stand side t floor low high l ls st))
 
   pub fills_beside : t.guarantee.kind ≡ AutoMatchLimit → (ls : List Level) (r m : ℕ) → AllByRecursion Holds ls → Ascending ls → Standing ls → AllByRecursion (Beside side t m (fills side t ls r m)) (fills side t ls r m)
   fills_beside e [] r m holds up st = tt
   fills_beside e (l ∷ ls) r m (h, holds) up st =
-      beside_step l ls r m h holds up st e (fills_beside e ls (r - taken (split_at t l r m)) (m + (split_at t l r m).contra) holds up.1 (later_stand side t floor low high l ls st))
+      beside_step l ls r m h holds up st e (fills_beside e ls (r - total_taken (split_at t l r m)) (m + (split_at t l r m).contra) holds up.1 (later_stand side t floor low high l ls st))
 
   pub fills_lacking : t.guarantee.kind ≡ AutoMatchLimit → (ls : List Level) (r m : ℕ) → AllByRecursion Holds ls → Ascending ls → Standing ls
       → AllByRecursion (λ f. AllByRecursion (Lacking side t m (fills side t ls r m) f) (fills side t ls r m)) (fills side t ls r m)
   fills_lacking e [] r m holds up st = tt
   fills_lacking e (l ∷ ls) r m (h, holds) up st =
-      lacking_step l ls r m h holds up st e (fills_lacking e ls (r - taken (split_at t l r m)) (m + (split_at t l r m).contra) holds up.1 (later_stand side t floor low high l ls st))
+      lacking_step l ls r m h holds up st e (fills_lacking e ls (r - total_taken (split_at t l r m)) (m + (split_at t l r m).contra) holds up.1 (later_stand side t floor low high l ls st))
 
 -- The contra takes no more and no less than it may.
 pub fills_contra_lawful : (side : Side) (t : ContraTerms) (size : ℕ) (floor : ℤ) (ls : List Level)

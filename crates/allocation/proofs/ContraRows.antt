@@ -11,8 +11,8 @@ use Rattle.market.specs.declared.side.Side.{Side}
 use Rattle.allocation.specs.declared.fill.FillRow.{FillRow}
 use Rattle.allocation.specs.declared.response.Class.TheVariants.{Customer, Other}
 use Rattle.allocation.specs.declared.response.Response.{Response}
-use Rattle.allocation.specs.ContraLaws.{of_contra, of_other, row_price, priced_at, priced_below, priced_up_to, got, asked}
-use Rattle.allocation.specs.FillLaws.{of_response, kept, filled_in, size_in, same_price, same_class, ContraRow}
+use Rattle.allocation.specs.ContraLaws.{of_contra, of_other, row_price, priced_at, priced_below, priced_up_to, fill_of, demand_of}
+use Rattle.allocation.specs.FillLaws.{of_response, those, filled_in, size_in, same_price, same_class, ContraRow}
 use Rattle.allocation.specs.Fill.{shared_rows, contra_rows, level_rows}
 use Rattle.allocation.specs.Levels.{Level}
 use Rattle.allocation.specs.Share.{sizes, total}
@@ -31,11 +31,11 @@ pub record LevelParts (l : Level) (s : Split) (rows : List FillRow) : Type 0 whe
   pub others_some : AllByRecursion (λ (f : FillRow). of_other f ≡ true → 0 < f.filled → 0 < s.others) rows
   -- a response has some left where its class lacks something
   pub lack : AllByRecursion (λ (g : FillRow). of_response g ≡ true → 0 < g.left → (s.customers < total (sizes l.customers)) ⊎ (s.others < total (sizes l.others))) rows
-  pub contra_got : filled_in (kept of_contra rows) ≡ s.contra
-  pub responses_got : filled_in (kept of_response rows) ≡ s.customers + s.others
-  pub responses_asked : size_in (kept of_response rows) ≡ total (sizes l.customers) + total (sizes l.others)
-  pub others_got : filled_in (kept of_other rows) ≡ s.others
-  pub others_asked : size_in (kept of_other rows) ≡ total (sizes l.others)
+  pub contra_got : filled_in (those of_contra rows) ≡ s.contra
+  pub responses_got : filled_in (those of_response rows) ≡ s.customers + s.others
+  pub responses_asked : size_in (those of_response rows) ≡ total (sizes l.customers) + total (sizes l.others)
+  pub others_got : filled_in (those of_other rows) ≡ s.others
+  pub others_asked : size_in (those of_other rows) ≡ total (sizes l.others)
 
 module _ (side : Side) (l : Level) (s : Split) (C K O : List FillRow)
     (cs : ClassRows side l.price Customer s.customers (total (sizes l.customers)) l.customers C)
@@ -45,7 +45,7 @@ module _ (side : Side) (l : Level) (s : Split) (C K O : List FillRow)
   all_three : (P : FillRow → Type 0) → AllByRecursion P C → AllByRecursion P K → AllByRecursion P O → AllByRecursion P (C ++ (K ++ O))
   all_three P a b c = All-append P C (K ++ O) a (All-append P K O b c)
 
-  kept_three : (p : FillRow → Bool) (x y z : List FillRow) → kept p C ≡ x → kept p K ≡ y → kept p O ≡ z → kept p (C ++ (K ++ O)) ≡ x ++ (y ++ z)
+  kept_three : (p : FillRow → Bool) (x y z : List FillRow) → those p C ≡ x → those p K ≡ y → those p O ≡ z → those p (C ++ (K ++ O)) ≡ x ++ (y ++ z)
   kept_three p x y z a b c = let one = kept_append p C (K ++ O) in let two = kept_append p K O in cc
 
   of_customers : (f : FillRow) → f.class ≡ Customer → of_other f ≡ false
@@ -57,7 +57,7 @@ module _ (side : Side) (l : Level) (s : Split) (C K O : List FillRow)
   of_none : (f : FillRow) → of_response f ≡ false → of_other f ≡ false
   of_none f n = and_left (of_response f) (same_class Other f.class) n
 
-  kept_contra : kept of_contra (C ++ (K ++ O)) ≡ K
+  kept_contra : those of_contra (C ++ (K ++ O)) ≡ K
   kept_contra =
       kept_three of_contra [] K []
       (kept_none of_contra C (All-weaker (λ f. of_response f ≡ true) (λ f. of_contra f ≡ false) (λ f y. not_from_true (of_response f) y) C cs.of_responses))
@@ -65,10 +65,10 @@ module _ (side : Side) (l : Level) (s : Split) (C K O : List FillRow)
       (kept_none of_contra O (All-weaker (λ f. of_response f ≡ true) (λ f. of_contra f ≡ false) (λ f y. not_from_true (of_response f) y) O os.of_responses))
       ∙ append-nil K
 
-  kept_responses : kept of_response (C ++ (K ++ O)) ≡ C ++ O
+  kept_responses : those of_response (C ++ (K ++ O)) ≡ C ++ O
   kept_responses = kept_three of_response C [] O (kept_all of_response C cs.of_responses) (kept_none of_response K ks.of_none) (kept_all of_response O os.of_responses)
 
-  kept_others : kept of_other (C ++ (K ++ O)) ≡ O
+  kept_others : those of_other (C ++ (K ++ O)) ≡ O
   kept_others =
       kept_three of_other [] [] O
       (kept_none of_other C (All-weaker (λ f. f.class ≡ Customer) (λ f. of_other f ≡ false) of_customers C cs.of_class))
@@ -130,29 +130,29 @@ level_parts side floor initiating l s holds customers others most most_others =
 
 -- a second test that all pass keeps what the first keeps, and one that none passes keeps nothing
 module _ {X : Type 0} (who p : X → Bool) where
-  kept_where : (xs : List X) → AllByRecursion (λ x. p x ≡ true) xs → kept (λ x. who x && p x) xs ≡ kept who xs
+  kept_where : (xs : List X) → AllByRecursion (λ x. p x ≡ true) xs → those (λ x. who x && p x) xs ≡ those who xs
   kept_where [] a = refl
   kept_where (x ∷ xs) (e, a) =
-      ap (λ b. cond (who x && b) (x ∷ kept (λ y. who y && p y) xs) (kept (λ y. who y && p y) xs)) e
-      ∙ elim (who x) as (λ b. cond (b && true) (x ∷ kept (λ y. who y && p y) xs) (kept (λ y. who y && p y) xs) ≡ cond b (x ∷ kept who xs) (kept who xs)) [
+      ap (λ b. cond (who x && b) (x ∷ those (λ y. who y && p y) xs) (those (λ y. who y && p y) xs)) e
+      ∙ elim (who x) as (λ b. cond (b && true) (x ∷ those (λ y. who y && p y) xs) (those (λ y. who y && p y) xs) ≡ cond b (x ∷ those who xs) (those who xs)) [
         | true ↦ ap (λ (zs : List X). x ∷ zs) (kept_where xs a)
         | false ↦ kept_where xs a
       ]
 
-  kept_nowhere : (xs : List X) → AllByRecursion (λ x. p x ≡ false) xs → kept (λ x. who x && p x) xs ≡ []
+  kept_nowhere : (xs : List X) → AllByRecursion (λ x. p x ≡ false) xs → those (λ x. who x && p x) xs ≡ []
   kept_nowhere xs a = kept_none (λ x. who x && p x) xs (All-weaker (λ x. p x ≡ false) (λ x. (who x && p x) ≡ false) (λ x e. and_right (who x) (p x) e) xs a)
 
   -- rows xs that pass it before rows ys that do not, rows xs that do not, and rows xs that do
-  kept_first : (xs ys : List X) → AllByRecursion (λ x. p x ≡ true) xs → AllByRecursion (λ x. p x ≡ false) ys → kept (λ x. who x && p x) (xs ++ ys) ≡ kept who xs
+  kept_first : (xs ys : List X) → AllByRecursion (λ x. p x ≡ true) xs → AllByRecursion (λ x. p x ≡ false) ys → those (λ x. who x && p x) (xs ++ ys) ≡ those who xs
   kept_first xs ys a b =
-      kept_append (λ x. who x && p x) xs ys ∙ ap (λ (zs : List X). zs ++ kept (λ x. who x && p x) ys) (kept_where xs a)
-      ∙ ap (λ (zs : List X). kept who xs ++ zs) (kept_nowhere ys b) ∙ append-nil (kept who xs)
+      kept_append (λ x. who x && p x) xs ys ∙ ap (λ (zs : List X). zs ++ those (λ x. who x && p x) ys) (kept_where xs a)
+      ∙ ap (λ (zs : List X). those who xs ++ zs) (kept_nowhere ys b) ∙ append-nil (those who xs)
 
-  kept_later : (xs ys : List X) → AllByRecursion (λ x. p x ≡ false) xs → kept (λ x. who x && p x) (xs ++ ys) ≡ kept (λ x. who x && p x) ys
-  kept_later xs ys a = kept_append (λ x. who x && p x) xs ys ∙ ap (λ (zs : List X). zs ++ kept (λ x. who x && p x) ys) (kept_nowhere xs a)
+  kept_later : (xs ys : List X) → AllByRecursion (λ x. p x ≡ false) xs → those (λ x. who x && p x) (xs ++ ys) ≡ those (λ x. who x && p x) ys
+  kept_later xs ys a = kept_append (λ x. who x && p x) xs ys ∙ ap (λ (zs : List X). zs ++ those (λ x. who x && p x) ys) (kept_nowhere xs a)
 
-  kept_both : (xs ys : List X) → AllByRecursion (λ x. p x ≡ true) xs → kept (λ x. who x && p x) (xs ++ ys) ≡ kept who xs ++ kept (λ x. who x && p x) ys
-  kept_both xs ys a = kept_append (λ x. who x && p x) xs ys ∙ ap (λ (zs : List X). zs ++ kept (λ x. who x && p x) ys) (kept_where xs a)
+  kept_both : (xs ys : List X) → AllByRecursion (λ x. p x ≡ true) xs → those (λ x. who x && p x) (xs ++ ys) ≡ those who xs ++ those (λ x. who x && p x) ys
+  kept_both xs ys a = kept_append (λ x. who x && p x) xs ys ∙ ap (λ (zs : List X). zs ++ those (λ x. who x && p x) ys) (kept_where xs a)
 
 same_as : (z w : ℤ) → w ≡ z → same_price z w ≡ true
 same_as z w e = subst (λ (x : ℤ). same_price z x ≡ true) (sym e) (same_price_self z)
@@ -178,31 +178,31 @@ module _ (side : Side) (l : Level) (s : Split) (A B : List FillRow) (h : LevelPa
 
   -- those of the level's price are the level's
   pub record CountsHere (z : ℤ) : Type 0 where
-    pub contra_got : got of_contra (priced_at side z) (A ++ B) ≡ s.contra
-    pub responses_got : got of_response (priced_at side z) (A ++ B) ≡ s.customers + s.others
-    pub responses_asked : asked of_response (priced_at side z) (A ++ B) ≡ c + n
-    pub others_got : got of_other (priced_at side z) (A ++ B) ≡ s.others
-    pub others_asked : asked of_other (priced_at side z) (A ++ B) ≡ n
-    pub contra_up_to : got of_contra (priced_up_to side z) (A ++ B) ≡ s.contra
-    pub contra_below : got of_contra (priced_below side z) (A ++ B) ≡ 0
+    pub contra_got : fill_of of_contra (priced_at side z) (A ++ B) ≡ s.contra
+    pub responses_got : fill_of of_response (priced_at side z) (A ++ B) ≡ s.customers + s.others
+    pub responses_asked : demand_of of_response (priced_at side z) (A ++ B) ≡ c + n
+    pub others_got : fill_of of_other (priced_at side z) (A ++ B) ≡ s.others
+    pub others_asked : demand_of of_other (priced_at side z) (A ++ B) ≡ n
+    pub contra_up_to : fill_of of_contra (priced_up_to side z) (A ++ B) ≡ s.contra
+    pub contra_below : fill_of of_contra (priced_below side z) (A ++ B) ≡ 0
 
   -- those of a price above are the later rows'; below it and up to it the level's count too
   pub record CountsAbove (z : ℤ) : Type 0 where
-    pub contra_got : got of_contra (priced_at side z) (A ++ B) ≡ got of_contra (priced_at side z) B
-    pub responses_got : got of_response (priced_at side z) (A ++ B) ≡ got of_response (priced_at side z) B
-    pub responses_asked : asked of_response (priced_at side z) (A ++ B) ≡ asked of_response (priced_at side z) B
-    pub others_got : got of_other (priced_at side z) (A ++ B) ≡ got of_other (priced_at side z) B
-    pub others_asked : asked of_other (priced_at side z) (A ++ B) ≡ asked of_other (priced_at side z) B
-    pub contra_up_to : got of_contra (priced_up_to side z) (A ++ B) ≡ s.contra + got of_contra (priced_up_to side z) B
-    pub contra_below : got of_contra (priced_below side z) (A ++ B) ≡ s.contra + got of_contra (priced_below side z) B
+    pub contra_got : fill_of of_contra (priced_at side z) (A ++ B) ≡ fill_of of_contra (priced_at side z) B
+    pub responses_got : fill_of of_response (priced_at side z) (A ++ B) ≡ fill_of of_response (priced_at side z) B
+    pub responses_asked : demand_of of_response (priced_at side z) (A ++ B) ≡ demand_of of_response (priced_at side z) B
+    pub others_got : fill_of of_other (priced_at side z) (A ++ B) ≡ fill_of of_other (priced_at side z) B
+    pub others_asked : demand_of of_other (priced_at side z) (A ++ B) ≡ demand_of of_other (priced_at side z) B
+    pub contra_up_to : fill_of of_contra (priced_up_to side z) (A ++ B) ≡ s.contra + fill_of of_contra (priced_up_to side z) B
+    pub contra_below : fill_of of_contra (priced_below side z) (A ++ B) ≡ s.contra + fill_of of_contra (priced_below side z) B
 
-  kept_here : (who : FillRow → Bool) (z : ℤ) → z ≡ l.price → kept (λ f. who f && priced_at side z f) (A ++ B) ≡ kept who A
+  kept_here : (who : FillRow → Bool) (z : ℤ) → z ≡ l.price → those (λ f. who f && priced_at side z f) (A ++ B) ≡ those who A
   kept_here who z e =
       kept_first who (priced_at side z) A B
       (All-weaker (λ f. row_price side f ≡ l.price) (λ f. priced_at side z f ≡ true) (λ f k. same_as z (row_price side f) (k ∙ sym e)) A at)
       (All-weaker (λ f. l.price <ℤ row_price side f) (λ f. priced_at side z f ≡ false) (λ f k. not_below z (row_price side f) (subst (λ (x : ℤ). x <ℤ row_price side f) (sym e) k)) B over)
 
-  kept_above : (who : FillRow → Bool) (z : ℤ) → l.price <ℤ z → kept (λ f. who f && priced_at side z f) (A ++ B) ≡ kept (λ f. who f && priced_at side z f) B
+  kept_above : (who : FillRow → Bool) (z : ℤ) → l.price <ℤ z → those (λ f. who f && priced_at side z f) (A ++ B) ≡ those (λ f. who f && priced_at side z f) B
   kept_above who z less =
       kept_later who (priced_at side z) A B
       (All-weaker (λ f. row_price side f ≡ l.price) (λ f. priced_at side z f ≡ false) (λ f k. not_above z (row_price side f) (subst (λ (x : ℤ). x <ℤ z) (sym k) less)) A at)
@@ -236,12 +236,12 @@ module _ (side : Side) (l : Level) (s : Split) (A B : List FillRow) (h : LevelPa
     others_got = ap filled_in (kept_above of_other z less);
     others_asked = ap size_in (kept_above of_other z less);
     contra_up_to =
-        both_counts (kept of_contra A) (kept (λ f. of_contra f && priced_up_to side z f) B) (kept (λ f. of_contra f && priced_up_to side z f) (A ++ B)) s.contra
+        both_counts (those of_contra A) (those (λ f. of_contra f && priced_up_to side z f) B) (those (λ f. of_contra f && priced_up_to side z f) (A ++ B)) s.contra
         (kept_both of_contra (priced_up_to side z) A B
         (All-weaker (λ f. row_price side f ≡ l.price) (λ f. priced_up_to side z f ≡ true) (λ f k. within z (row_price side f) (inr (subst (λ (x : ℤ). x <ℤ z) (sym k) less))) A at))
         h.contra_got;
     contra_below =
-        both_counts (kept of_contra A) (kept (λ f. of_contra f && priced_below side z f) B) (kept (λ f. of_contra f && priced_below side z f) (A ++ B)) s.contra
+        both_counts (those of_contra A) (those (λ f. of_contra f && priced_below side z f) B) (those (λ f. of_contra f && priced_below side z f) (A ++ B)) s.contra
         (kept_both of_contra (priced_below side z) A B
         (All-weaker (λ f. row_price side f ≡ l.price) (λ f. priced_below side z f ≡ true) (λ f k. grind (arith, ints)) A at))
         h.contra_got;

@@ -7,7 +7,7 @@ use Rattle.allocation.specs.declared.order.ContraTerms.{ContraTerms}
 use Rattle.allocation.specs.declared.order.GuaranteeKind.{GuaranteeKind}
 use Rattle.allocation.specs.declared.order.GuaranteeKind.TheVariants.{SingleStop, AutoMatchLimit}
 use Rattle.allocation.specs.ContraLaws.{GuaranteeAllows}
-use Rattle.allocation.specs.Split.{Split, others_share, matched, clean_up, nothing_trades, stop_rest, match_between, match_rest, rest_by, with_customers, split, taken}
+use Rattle.allocation.specs.Split.{Split, others_share, whole_match, clean_up, nothing_trades, stop_rest, match_between, match_rest, rest_by, with_customers, split, total_taken}
 
 -- Under a single stop the contra has got nothing yet, or nothing is left.
 abbrev pub NoneYet : GuaranteeKind → ℕ → ℕ → Type 0
@@ -31,7 +31,7 @@ pub record ContraSplit (kind : GuaranteeKind) (t : ContraTerms) (price : ℤ) (r
   -- before the initiating price it trades while it lacks some of the share, for a match or where too little is left for one
   pub beside_others : kind ≡ AutoMatchLimit → price <ℤ t.initiating → 0 < s.contra → (m < t.guaranteed) × ((s.contra ≤ s.customers + s.others) ⊎ (s.contra + s.others < n + (c + n)))
   -- and while it lacks some, it matches, or all is taken
-  pub while_lacking : kind ≡ AutoMatchLimit → t.guarantee.price ≤ℤ price → price <ℤ t.initiating → (t.guaranteed ≤ m) ⊎ ((s.contra ≡ s.customers + s.others) ⊎ (taken s ≡ r))
+  pub while_lacking : kind ≡ AutoMatchLimit → t.guarantee.price ≤ℤ price → price <ℤ t.initiating → (t.guaranteed ≤ m) ⊎ ((s.contra ≡ s.customers + s.others) ⊎ (total_taken s ≡ r))
 
 no_limit : SingleStop ≡ AutoMatchLimit → ⊥
 no_limit e = let z : ◌≡◌ {A = ℕ} 0 1 = cc in omega arith
@@ -57,7 +57,7 @@ nothing_contra t price r m c n = record {
 }
 
 matched_contra : (t : ContraTerms) (price : ℤ) (r m c n : ℕ) → t.guarantee.price ≤ℤ price → price <ℤ t.initiating → m < t.guaranteed → n + (c + n) ≤ r - min r c
-    → ContraSplit AutoMatchLimit t price r m c n (with_customers (min r c) (matched (c + n) n))
+    → ContraSplit AutoMatchLimit t price r m c n (with_customers (min r c) (whole_match (c + n) n))
 matched_contra t price r m c n le less lacks enough = record {
   allowed = λ _. le;
   while_wanted = λ _ _ lack. elim lack [ inl k ↦ absurd (omega arith) | inr k ↦ absurd (omega arith) ];
@@ -81,11 +81,11 @@ clean_contra kind t price r g m c n allowed part least short = record {
 
 stop_contra : (t : ContraTerms) (price : ℤ) (r m c n : ℕ) → ContraSplit SingleStop t price r m c n (with_customers (min r c) (stop_rest t price (r - min r c) n))
 stop_contra t price r m c n =
-    let own : ℤ = t.guarantee.price in
+    let contra_price : ℤ = t.guarantee.price in
     let q : ℕ = r - min r c in
-    cond_both (lt_z price own) (others_share q n) (cond (lt_z own price) nothing_trades (clean_up q t.guaranteed n)) (λ x. ContraSplit SingleStop t price r m c n (with_customers (min r c) x))
+    cond_both (lt_z price contra_price) (others_share q n) (cond (lt_z contra_price price) nothing_trades (clean_up q t.guaranteed n)) (λ x. ContraSplit SingleStop t price r m c n (with_customers (min r c) x))
     (λ e. share_contra SingleStop t price r m c n (inl (grind (arith, ints))))
-    (λ e. cond_both (lt_z own price) nothing_trades (clean_up q t.guaranteed n) (λ x. ContraSplit SingleStop t price r m c n (with_customers (min r c) x))
+    (λ e. cond_both (lt_z contra_price price) nothing_trades (clean_up q t.guaranteed n) (λ x. ContraSplit SingleStop t price r m c n (with_customers (min r c) x))
     (λ k. nothing_contra t price r m c n)
     (λ k. clean_contra SingleStop t price r t.guaranteed m c n (grind (arith, ints))
     (λ none. elim (none refl) [ inl z ↦ inr (omega arith) | inr z ↦ inl z ]) (omega arith) (λ a _. absurd (no_limit a))))
@@ -95,10 +95,10 @@ between_contra : (t : ContraTerms) (price : ℤ) (r m c n : ℕ) → t.guarantee
 between_contra t price r m c n le less =
     let q : ℕ = r - min r c in
     let both : ℕ = n + (c + n) in
-    cond_both (leb t.guaranteed m) (others_share q n) (cond (leb both q) (matched (c + n) n) (clean_up q (t.guaranteed - m) n)) (λ x. ContraSplit AutoMatchLimit t price r m c n (with_customers (min r c) x))
+    cond_both (leb t.guaranteed m) (others_share q n) (cond (leb both q) (whole_match (c + n) n) (clean_up q (t.guaranteed - m) n)) (λ x. ContraSplit AutoMatchLimit t price r m c n (with_customers (min r c) x))
     (λ e. share_contra AutoMatchLimit t price r m c n (inr (leb-true t.guaranteed m e)))
     (λ e. let lacks : m < t.guaranteed = leb-false t.guaranteed m e in
-    cond_both (leb both q) (matched (c + n) n) (clean_up q (t.guaranteed - m) n) (λ x. ContraSplit AutoMatchLimit t price r m c n (with_customers (min r c) x))
+    cond_both (leb both q) (whole_match (c + n) n) (clean_up q (t.guaranteed - m) n) (λ x. ContraSplit AutoMatchLimit t price r m c n (with_customers (min r c) x))
     (λ k. matched_contra t price r m c n le less lacks (leb-true both q k))
     (λ k. clean_contra AutoMatchLimit t price r (t.guaranteed - m) m c n le (λ _. inr refl) (omega arith) (λ _ _. (lacks, leb-false both q k))))
 

@@ -17,20 +17,20 @@ use Rattle.allocation.specs.declared.order.GuaranteeKind.TheVariants.{SingleStop
 use Rattle.allocation.specs.declared.order.PairedOrder.{PairedOrder}
 use Rattle.allocation.specs.declared.response.Key.{Key}
 use Rattle.allocation.specs.declared.response.Response.{Response}
-use Rattle.allocation.specs.Arrange.{arranged}
-use Rattle.allocation.specs.Auction.{AuctionValues, told_of, auction_fills}
+use Rattle.allocation.specs.Arrange.{arrangement}
+use Rattle.allocation.specs.Auction.{AuctionValues, stood_responses, auction_fills}
 use Rattle.allocation.specs.AuctionInvariant.{from_to, stop_ok, range_ok, guarantee_ok, terms_ok, response_ok, each, arrivals_apart, owns_apart}
 use Rattle.allocation.specs.ContraLaws.{ContraLaws}
-use Rattle.allocation.specs.FillLaws.{Told, response_told, FillLaws}
+use Rattle.allocation.specs.FillLaws.{StoodResponse, stood_response, FillLaws}
 use Rattle.allocation.specs.Fill.{fills, fill_list, contra_terms, order_levels}
 use Rattle.allocation.specs.Levels.{Level, levels, contra_level, flat}
 use Rattle.allocation.specs.LevelSteps.{Sized, Sound}
-use Rattle.allocation.specs.OnlyRows.{LawfulRows, share_guaranteed}
+use Rattle.allocation.specs.OnlyRows.{LawfulRows, lawful_share}
 use Rattle.allocation.specs.OnlyShares.{OnlyTheseShares}
 use Rattle.allocation.specs.Ranking.{by_key}
 use Rattle.allocation.specs.RowLaws.{RowLaws}
-use Rattle.allocation.specs.Split.{guaranteed}
-use Rattle.allocation.specs.Walk.{walked}
+use Rattle.allocation.specs.Split.{guaranteed_share}
+use Rattle.allocation.specs.Walk.{walk_rows}
 use Rattle.allocation.proofs.AuctionKept.{both_left, both_right}
 use Rattle.allocation.proofs.ContraFacts.{fills_contra_lawful}
 use Rattle.allocation.proofs.FillFacts.{fills_lawful}
@@ -39,27 +39,27 @@ use Rattle.allocation.proofs.LawsDecide.{laws_decide}
 use Rattle.allocation.proofs.RowLists.{all_both}
 use Rattle.allocation.proofs.RowOrder.{Ranked, rows_stand}
 use Rattle.allocation.proofs.RowsDecide.{rows_decide}
-use Rattle.allocation.proofs.ToldApart.{ToldOnce, are_apart, owns_are_apart, all_told_once, told_apart}
+use Rattle.allocation.proofs.StoodApart.{StoodOnce, are_apart, owns_are_apart, all_stood_once, stood_apart}
 use Rattle.allocation.proofs.LevelRows.{Stands}
 use Rattle.allocation.proofs.LevelShape.{Holds, Ascending, Among}
 use Rattle.allocation.proofs.WalkFacts.{walked_is_fills, walkable_levels, few_levels}
 
-pub sound_arranged : (ahead : Response → Response → Bool) (xs : List Response) → Sound xs → Sound (arranged ahead xs)
+pub sound_arranged : (ahead : Response → Response → Bool) (xs : List Response) → Sound xs → Sound (arrangement ahead xs)
 sound_arranged ahead xs h =
     let same = shuffled_arranged ahead xs in
-    let long = length_permutation xs (arranged ahead xs) same in
-    (omega arith, all_shuffled Sized xs (arranged ahead xs) same h.1)
+    let long = length_permutation xs (arrangement ahead xs) same in
+    (omega arith, all_shuffled Sized xs (arrangement ahead xs) same h.1)
 
 -- walking the arranged responses writes the fills of their levels
-pub walked_levels : (ahead : Response → Response → Bool) (side : Side) (t : ContraTerms) (xs ys : List Response) (size : ℕ) → ys ≡ arranged ahead xs
-    → walked (length ys + 1) side t (Some (contra_level t.guarantee.kind t)) ys size 0 ≡ fills side t (levels ahead (contra_level t.guarantee.kind t) xs) size 0
+pub walked_levels : (ahead : Response → Response → Bool) (side : Side) (t : ContraTerms) (xs ys : List Response) (size : ℕ) → ys ≡ arrangement ahead xs
+    → walk_rows (length ys + 1) side t (Some (contra_level t.guarantee.kind t)) ys size 0 ≡ fills side t (levels ahead (contra_level t.guarantee.kind t) xs) size 0
 walked_levels ahead side t xs ys size e =
-    let own : ℤ = contra_level t.guarantee.kind t in
-    let ls = levels ahead own xs in
-    let flat_is : flat ls ≡ ys = flat_arranged ahead own xs ∙ sym e in
-    let long : length ys ≡ length xs = ap length e ∙ length_permutation xs (arranged ahead xs) (shuffled_arranged ahead xs) in
-    let few : length ls ≤ length ys + 1 = omega (arith, few_levels ahead own xs) in
-    ap (λ zs. walked (length ys + 1) side t (Some own) zs size 0) (sym flat_is) ∙ walked_is_fills (length ys + 1) side t own (Some own) ls size 0 few (walkable_levels ahead own xs)
+    let contra_price : ℤ = contra_level t.guarantee.kind t in
+    let ls = levels ahead contra_price xs in
+    let flat_is : flat ls ≡ ys = flat_arranged ahead contra_price xs ∙ sym e in
+    let long : length ys ≡ length xs = ap length e ∙ length_permutation xs (arrangement ahead xs) (shuffled_arranged ahead xs) in
+    let few : length ls ≤ length ys + 1 = omega (arith, few_levels ahead contra_price xs) in
+    ap (λ zs. walk_rows (length ys + 1) side t (Some contra_price) zs size 0) (sym flat_is) ∙ walked_is_fills (length ys + 1) side t contra_price (Some contra_price) ls size 0 few (walkable_levels ahead contra_price xs)
 
 -- a price between two that can be turned can be turned
 between : (low z high : ℤ) → showable (Some low) ≡ true → showable (Some high) ≡ true → le_z low z ≡ true → le_z z high ≡ true → showable (Some z) ≡ true
@@ -98,10 +98,10 @@ own_in_range AutoMatchLimit price floor initiating t e f a b c = ap (le_z floor)
 -- what holds of a response that stands
 one_stands : (size : ℕ) (floor initiating : ℤ) (x : Response) → response_ok size floor initiating x ≡ true → (0 < x.member) × (1 ≤ x.size) × (x.size ≤ size) × (le_z floor x.price ≡ true) × (le_z x.price initiating ≡ true)
 one_stands size floor initiating x h =
-    let r1 = both_right (from_to 1 16 x.member) (from_to 1 4 x.own && (from_to 1 size x.size && (le_z floor x.price && le_z x.price initiating))) h in
-    let r2 = both_right (from_to 1 4 x.own) (from_to 1 size x.size && (le_z floor x.price && le_z x.price initiating)) r1 in
+    let r1 = both_right (from_to 1 16 x.member) (from_to 1 4 x.own_number && (from_to 1 size x.size && (le_z floor x.price && le_z x.price initiating))) h in
+    let r2 = both_right (from_to 1 4 x.own_number) (from_to 1 size x.size && (le_z floor x.price && le_z x.price initiating)) r1 in
     let r3 = both_right (from_to 1 size x.size) (le_z floor x.price && le_z x.price initiating) r2 in
-    let member = both_left (leb 1 x.member) (leb x.member 16) (both_left (from_to 1 16 x.member) (from_to 1 4 x.own && (from_to 1 size x.size && (le_z floor x.price && le_z x.price initiating))) h) in
+    let member = both_left (leb 1 x.member) (leb x.member 16) (both_left (from_to 1 16 x.member) (from_to 1 4 x.own_number && (from_to 1 size x.size && (le_z floor x.price && le_z x.price initiating))) h) in
     let sized = both_left (from_to 1 size x.size) (le_z floor x.price && le_z x.price initiating) r2 in
     let least = both_left (leb 1 x.size) (leb x.size size) sized in
     let most = both_right (leb 1 x.size) (leb x.size size) sized in
@@ -135,20 +135,20 @@ levels_in_order : (ahead : Response → Response → Bool) (order : PairedOrder)
     → InOrder (contra_terms order initiating (length stood)) floor (order_levels ahead order initiating stood)
 levels_in_order ahead order floor initiating stood in_order under stop_at e =
     let t : ContraTerms = contra_terms order initiating (length stood) in
-    let own : ℤ = contra_level order.guarantee.kind t in
+    let contra_price : ℤ = contra_level order.guarantee.kind t in
     let above = own_in_range order.guarantee.kind order.guarantee.price floor initiating t refl refl in_order under stop_at in
     record {
-      holds = holds_levels ahead own stood;
-      ascending = ascending_levels ahead own stood;
-      among = among_levels ahead own stood;
-      stand = all_flat ahead (Stands floor initiating) own stood (all_stand order.size floor initiating stood e);
+      holds = holds_levels ahead contra_price stood;
+      ascending = ascending_levels ahead contra_price stood;
+      among = among_levels ahead contra_price stood;
+      stand = all_flat ahead (Stands floor initiating) contra_price stood (all_stand order.size floor initiating stood e);
       low = grind (arith, ints);
       high = grind (arith, ints);
     }
 
 -- the fill list keeps its laws where the range and the guarantee are in order
 fill_list_in_order : (ahead : Response → Response → Bool) (order : PairedOrder) (floor initiating : ℤ) (stood : List Response) → le_z floor initiating ≡ true → le_z order.guarantee.price initiating ≡ true
-    → stop_ok order.guarantee.kind floor order.guarantee.price ≡ true → each (response_ok order.size floor initiating) stood ≡ true → FillLaws order.side order.size floor initiating (map (response_told order.side) stood) (fill_list ahead order initiating stood)
+    → stop_ok order.guarantee.kind floor order.guarantee.price ≡ true → each (response_ok order.size floor initiating) stood ≡ true → FillLaws order.side order.size floor initiating (map (stood_response order.side) stood) (fill_list ahead order initiating stood)
 fill_list_in_order ahead order floor initiating stood in_order under stop_at e =
     let t : ContraTerms = contra_terms order initiating (length stood) in
     let h = levels_in_order ahead order floor initiating stood in_order under stop_at e in
@@ -156,7 +156,7 @@ fill_list_in_order ahead order floor initiating stood in_order under stop_at e =
 
 -- and in it the contra takes what it may
 contra_in_order : (ahead : Response → Response → Bool) (order : PairedOrder) (floor initiating : ℤ) (stood : List Response) → le_z floor initiating ≡ true → le_z order.guarantee.price initiating ≡ true
-    → stop_ok order.guarantee.kind floor order.guarantee.price ≡ true → each (response_ok order.size floor initiating) stood ≡ true → ContraLaws order.side order.guarantee initiating (guaranteed order.size (length stood)) (fill_list ahead order initiating stood)
+    → stop_ok order.guarantee.kind floor order.guarantee.price ≡ true → each (response_ok order.size floor initiating) stood ≡ true → ContraLaws order.side order.guarantee initiating (guaranteed_share order.size (length stood)) (fill_list ahead order initiating stood)
 contra_in_order ahead order floor initiating stood in_order under stop_at e =
     let h = levels_in_order ahead order floor initiating stood in_order under stop_at e in
     fills_contra_lawful order.side (contra_terms order initiating (length stood)) order.size floor (order_levels ahead order initiating stood) h.holds h.ascending h.among h.stand h.low h.high
@@ -164,9 +164,9 @@ contra_in_order ahead order floor initiating stood in_order under stop_at e =
 -- and no other shares keep both
 only_in_order : (ahead : Response → Response → Bool) (order : PairedOrder) (floor initiating : ℤ) (stood : List Response) → le_z floor initiating ≡ true → le_z order.guarantee.price initiating ≡ true
     → stop_ok order.guarantee.kind floor order.guarantee.price ≡ true → each (response_ok order.size floor initiating) stood ≡ true
-    → OnlyTheseShares order.side order.size floor order.guarantee initiating (guaranteed order.size (length stood)) (map (response_told order.side) stood) (fill_list ahead order initiating stood)
+    → OnlyTheseShares order.side order.size floor order.guarantee initiating (guaranteed_share order.size (length stood)) (map (stood_response order.side) stood) (fill_list ahead order initiating stood)
 only_in_order ahead order floor initiating stood in_order under stop_at e rows laws contra =
-    laws_decide order.side (contra_terms order initiating (length stood)) order.size floor (map (response_told order.side) stood) rows (fill_list ahead order initiating stood)
+    laws_decide order.side (contra_terms order initiating (length stood)) order.size floor (map (stood_response order.side) stood) rows (fill_list ahead order initiating stood)
     (levels_in_order ahead order floor initiating stood in_order under stop_at e).high laws contra
     (fill_list_in_order ahead order floor initiating stood in_order under stop_at e)
     (contra_in_order ahead order floor initiating stood in_order under stop_at e)
@@ -186,38 +186,38 @@ pub record Ranks (ahead : Key → Key → Bool) : Type 0 where
   pub carries_on : (x y z : Key) → ahead x y ≡ true → ahead y z ≡ true → ahead x z ≡ true
 
 -- its rows stand in their order
-rows_in_order : (ahead : Key → Key → Bool) → Ranks ahead → (v : AuctionValues) → Fillable v → RowLaws v.order.side ahead (told_of v) (auction_fills (by_key ahead) v)
+rows_in_order : (ahead : Key → Key → Bool) → Ranks ahead → (v : AuctionValues) → Fillable v → RowLaws v.order.side ahead (stood_responses v) (auction_fills (by_key ahead) v)
 rows_in_order ahead ranks v h =
-    let own : ℤ = contra_level v.order.guarantee.kind (contra_terms v.order v.initiating (length v.stood)) in
+    let contra_price : ℤ = contra_level v.order.guarantee.kind (contra_terms v.order v.initiating (length v.stood)) in
     let shape = levels_in_order (by_key ahead) v.order v.floor v.initiating v.stood h.in_order h.guaranteed_at h.stop_at h.standing in
     let ls : List Level = order_levels (by_key ahead) v.order v.initiating v.stood in
-    let once = all_told_once v.order.side v.stood (owns_are_apart v.stood h.owns) in
-    let told = all_classes (ToldOnce (told_of v)) ls (all_flat (by_key ahead) (ToldOnce (told_of v)) own v.stood once) in
-    let ordered = ordered_classes ahead ranks.one_ahead ranks.carries_on own v.stood (are_apart v.stood h.arrivals) in
-    rows_stand v.order.side ahead (told_of v) (contra_terms v.order v.initiating (length v.stood)) v.floor shape.low shape.high ls v.order.size 0 shape.holds shape.ascending shape.stand
-    (all_both _ _ (Ranked v.order.side ahead (told_of v)) (λ l o t. (o, t)) ls ordered told)
+    let once = all_stood_once v.order.side v.stood (owns_are_apart v.stood h.owns) in
+    let stood = all_classes (StoodOnce (stood_responses v)) ls (all_flat (by_key ahead) (StoodOnce (stood_responses v)) contra_price v.stood once) in
+    let ordered = ordered_classes ahead ranks.one_ahead ranks.carries_on contra_price v.stood (are_apart v.stood h.arrivals) in
+    rows_stand v.order.side ahead (stood_responses v) (contra_terms v.order v.initiating (length v.stood)) v.floor shape.low shape.high ls v.order.size 0 shape.holds shape.ascending shape.stand
+    (all_both _ _ (Ranked v.order.side ahead (stood_responses v)) (λ l o t. (o, t)) ls ordered stood)
 
 -- the guaranteed share, by the split and by the laws
 share_by : (size : ℕ) (b : Bool) → max 1 (size * cond b 50 40 / 100) ≡ max 1 (cond b (size * 50 / 100) (size * 40 / 100))
 share_by size true = refl
 share_by size false = refl
 
-share_is : (size stood : ℕ) → guaranteed size stood ≡ share_guaranteed size stood
+share_is : (size stood : ℕ) → guaranteed_share size stood ≡ lawful_share size stood
 share_is size stood = share_by size (eqb stood 1)
 
 -- the fill list of an auction keeps all laws, and no other rows do
 pub fills_are_lawful : (ahead : Key → Key → Bool) → Ranks ahead → (v : AuctionValues) → Fillable v
-    → LawfulRows v.order.side v.order.size v.floor v.order.guarantee v.initiating ahead (told_of v) (auction_fills (by_key ahead) v)
+    → LawfulRows v.order.side v.order.size v.floor v.order.guarantee v.initiating ahead (stood_responses v) (auction_fills (by_key ahead) v)
 fills_are_lawful ahead ranks v h = record {
   fill_laws = laws;
   contra_laws = contra;
   row_laws = order;
   only_shares = shares;
-  only_rows = λ fs fl fc fo. rows_decide side ahead ranks.one_ahead told (told_apart side v.stood h.arrivals h.owns) v.order.size v.floor v.initiating fs rows fl fo laws order (shares fs fl fc);
+  only_rows = λ fs fl fc fo. rows_decide side ahead ranks.one_ahead stood (stood_apart side v.stood h.arrivals h.owns) v.order.size v.floor v.initiating fs rows fl fo laws order (shares fs fl fc);
 }
   where
-    told : List Told
-    told = told_of v
+    stood : List StoodResponse
+    stood = stood_responses v
 
     side : Side
     side = v.order.side
@@ -225,21 +225,21 @@ fills_are_lawful ahead ranks v h = record {
     rows : List FillRow
     rows = auction_fills (by_key ahead) v
 
-    counted : guaranteed v.order.size (length v.stood) ≡ share_guaranteed v.order.size (length told)
-    counted = share_is v.order.size (length v.stood) ∙ ap (share_guaranteed v.order.size) (sym (length-map v.stood (response_told side)))
+    counted : guaranteed_share v.order.size (length v.stood) ≡ lawful_share v.order.size (length stood)
+    counted = share_is v.order.size (length v.stood) ∙ ap (lawful_share v.order.size) (sym (length-map v.stood (stood_response side)))
 
-    laws : FillLaws side v.order.size v.floor v.initiating told rows
+    laws : FillLaws side v.order.size v.floor v.initiating stood rows
     laws = fill_list_in_order (by_key ahead) v.order v.floor v.initiating v.stood h.in_order h.guaranteed_at h.stop_at h.standing
 
-    contra : ContraLaws side v.order.guarantee v.initiating (share_guaranteed v.order.size (length told)) rows
+    contra : ContraLaws side v.order.guarantee v.initiating (lawful_share v.order.size (length stood)) rows
     contra = subst (λ (g : ℕ). ContraLaws side v.order.guarantee v.initiating g rows) counted
         (contra_in_order (by_key ahead) v.order v.floor v.initiating v.stood h.in_order h.guaranteed_at h.stop_at h.standing)
 
-    shares : OnlyTheseShares side v.order.size v.floor v.order.guarantee v.initiating (share_guaranteed v.order.size (length told)) told rows
-    shares = subst (λ (g : ℕ). OnlyTheseShares side v.order.size v.floor v.order.guarantee v.initiating g told rows) counted
+    shares : OnlyTheseShares side v.order.size v.floor v.order.guarantee v.initiating (lawful_share v.order.size (length stood)) stood rows
+    shares = subst (λ (g : ℕ). OnlyTheseShares side v.order.size v.floor v.order.guarantee v.initiating g stood rows) counted
         (only_in_order (by_key ahead) v.order v.floor v.initiating v.stood h.in_order h.guaranteed_at h.stop_at h.standing)
 
-    order : RowLaws side ahead told rows
+    order : RowLaws side ahead stood rows
     order = rows_in_order ahead ranks v h
 
 -- the front and the rest of what an accepted call wrote

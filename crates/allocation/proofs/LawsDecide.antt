@@ -9,7 +9,7 @@ use Rattle.std.proofs.lemmas.Bool.{cases_lt, not-true, both_ways}
 use Rattle.std.proofs.lemmas.List.Recursion.{is_sum_by}
 use Rattle.std.proofs.lemmas.List.Sorted.{sum_by-IsPermutation}
 use Rattle.market.specs.declared.side.Side.{Side}
-use Rattle.market.specs.Side.{turned}
+use Rattle.market.specs.Side.{turned_price}
 use Rattle.allocation.specs.declared.fill.FillRow.{FillRow}
 use Rattle.allocation.specs.declared.order.ContraTerms.{ContraTerms}
 use Rattle.allocation.specs.declared.order.GuaranteeKind.{GuaranteeKind}
@@ -17,8 +17,8 @@ use Rattle.allocation.specs.declared.order.GuaranteeKind.TheVariants.{SingleStop
 use Rattle.allocation.specs.declared.response.Class.{Class}
 use Rattle.allocation.specs.declared.response.Class.TheVariants.{Customer, Other}
 use Rattle.allocation.specs.Response.{class_number}
-use Rattle.allocation.specs.ContraLaws.{of_contra, of_customer, of_other, row_price, priced_at, priced_below, priced_up_to, got, asked, GuaranteeAllows, Matched, MatchedAll, TooFewToMatch, ContraLaws}
-use Rattle.allocation.specs.FillLaws.{Told, Listed, listed_of, row_listed, of_response, kept, filled_in, size_in, same_price, same_class, FillLaws}
+use Rattle.allocation.specs.ContraLaws.{of_contra, of_customer, of_other, row_price, priced_at, priced_below, priced_up_to, fill_of, demand_of, GuaranteeAllows, Matched, MatchedAll, TooFewToMatch, ContraLaws}
+use Rattle.allocation.specs.FillLaws.{StoodResponse, Listing, listing_of, row_listing, of_response, those, filled_in, size_in, same_price, same_class, FillLaws}
 use Rattle.allocation.specs.Levels.{contra_level}
 use Rattle.allocation.specs.OnlyShares.{SameShares}
 use Rattle.allocation.specs.Share.{total}
@@ -52,60 +52,60 @@ at_is : (side : Side) (who : FillRow → Bool) (z : ℤ) (f : FillRow) → (who 
 at_is side who z f h = same_is z (row_price side f) (both_right (who f) (priced_at side z f) h)
 
 pub same_row_price : (side : Side) (f g : FillRow) → row_price side f ≡ row_price side g → f.price ≡ g.price
-same_row_price side f g e = sym (turned_twice side f.price) ∙ ap (turned side) e ∙ turned_twice side g.price
+same_row_price side f g e = sym (turned_twice side f.price) ∙ ap (turned_price side) e ∙ turned_twice side g.price
 
 -- what rows of a class ask for at a price is what those that stood ask for
 module _ (side : Side) (z : ℤ) (c : Class) where
-  abbrev weight : Listed → ℕ
-  weight x = cond (same_class c x.class && same_price z (turned side x.price)) x.size 0
+  abbrev weight : Listing → ℕ
+  weight x = cond (same_class c x.class && same_price z (turned_price side x.price)) x.size 0
 
   first_counts : (b : Bool) (f : FillRow) (fs : List FillRow) → total (map (λ (g : FillRow). g.filled + g.left) (cond b (f ∷ fs) fs)) ≡ cond b (f.filled + f.left) 0 + total (map (λ (g : FillRow). g.filled + g.left) fs)
   first_counts true f fs = refl
   first_counts false f fs = omega arith
 
-  asked_listed : (rows : List FillRow) → asked (λ f. of_response f && same_class c f.class) (priced_at side z) rows ≡ total (map weight (map row_listed (kept of_response rows)))
+  asked_listed : (rows : List FillRow) → demand_of (λ f. of_response f && same_class c f.class) (priced_at side z) rows ≡ total (map weight (map row_listing (those of_response rows)))
   asked_listed [] = refl
   asked_listed (f ∷ fs) = go (of_response f) (asked_listed fs)
     where
       Q : List FillRow
-      Q = kept (λ (g : FillRow). (of_response g && same_class c g.class) && priced_at side z g) fs
+      Q = those (λ (g : FillRow). (of_response g && same_class c g.class) && priced_at side z g) fs
 
       R : List FillRow
-      R = kept of_response fs
+      R = those of_response fs
 
-      go : (b : Bool) → size_in Q ≡ total (map weight (map row_listed R)) → size_in (cond ((b && same_class c f.class) && priced_at side z f) (f ∷ Q) Q) ≡ total (map weight (map row_listed (cond b (f ∷ R) R)))
+      go : (b : Bool) → size_in Q ≡ total (map weight (map row_listing R)) → size_in (cond ((b && same_class c f.class) && priced_at side z f) (f ∷ Q) Q) ≡ total (map weight (map row_listing (cond b (f ∷ R) R)))
       go true ih = first_counts (same_class c f.class && priced_at side z f) f Q ∙ ap (λ (n : ℕ). cond (same_class c f.class && priced_at side z f) (f.filled + f.left) 0 + n) ih
       go false ih = ih
 
-  as_sum : (xs : List Listed) → total (map weight xs) ≡ sum_by weight xs
-  as_sum xs = is_sum_by (λ (ys : List Listed). total (map weight ys)) weight refl (λ x ys. refl) xs
+  as_sum : (xs : List Listing) → total (map weight xs) ≡ sum_by weight xs
+  as_sum xs = is_sum_by (λ (ys : List Listing). total (map weight ys)) weight refl (λ x ys. refl) xs
 
-  pub asked_by_those_told : (size : ℕ) (floor initiating : ℤ) (told : List Told) (rows : List FillRow) → FillLaws side size floor initiating told rows
-      → asked (λ f. of_response f && same_class c f.class) (priced_at side z) rows ≡ sum_by weight (map listed_of told)
-  asked_by_those_told size floor initiating told rows laws =
-      asked_listed rows ∙ as_sum (map row_listed (kept of_response rows)) ∙ sum_by-IsPermutation weight (map listed_of told) (map row_listed (kept of_response rows)) laws.each_once
+  pub asked_by_those_that_stood : (size : ℕ) (floor initiating : ℤ) (stood : List StoodResponse) (rows : List FillRow) → FillLaws side size floor initiating stood rows
+      → demand_of (λ f. of_response f && same_class c f.class) (priced_at side z) rows ≡ sum_by weight (map listing_of stood)
+  asked_by_those_that_stood size floor initiating stood rows laws =
+      asked_listed rows ∙ as_sum (map row_listing (those of_response rows)) ∙ sum_by-IsPermutation weight (map listing_of stood) (map row_listing (those of_response rows)) laws.each_once
 
-module _ (side : Side) (t : ContraTerms) (size : ℕ) (floor : ℤ) (told : List Told) (rows : List FillRow)
-    (laws : FillLaws side size floor t.initiating told rows) (contra : ContraLaws side t.guarantee t.initiating t.guaranteed rows) where
-  abbrev own : ℤ
-  own = contra_level t.guarantee.kind t
+module _ (side : Side) (t : ContraTerms) (size : ℕ) (floor : ℤ) (stood : List StoodResponse) (rows : List FillRow)
+    (laws : FillLaws side size floor t.initiating stood rows) (contra : ContraLaws side t.guarantee t.initiating t.guaranteed rows) where
+  abbrev contra_price : ℤ
+  contra_price = contra_level t.guarantee.kind t
 
   -- nothing trades beyond the contra's own price
-  up_to_own : AllByRecursion (λ (f : FillRow). 0 < f.filled → row_price side f ≤ℤ own) rows
+  up_to_own : AllByRecursion (λ (f : FillRow). 0 < f.filled → row_price side f ≤ℤ contra_price) rows
   up_to_own = go t.guarantee.kind refl
     where
       go : (kind : GuaranteeKind) → t.guarantee.kind ≡ kind → AllByRecursion (λ (f : FillRow). 0 < f.filled → row_price side f ≤ℤ contra_level kind t) rows
       go SingleStop e = contra.nothing_beyond_stop e
       go AutoMatchLimit e = All-weaker _ (λ (f : FillRow). 0 < f.filled → row_price side f ≤ℤ t.initiating) (λ f h some. (h some).1) rows laws.in_range
 
-  unfilled : (p : FillRow → Bool) → ((f : FillRow) → p f ≡ true → row_price side f ≤ℤ own → ⊥) → filled_in (kept p rows) ≡ 0
+  unfilled : (p : FillRow → Bool) → ((f : FillRow) → p f ≡ true → row_price side f ≤ℤ contra_price → ⊥) → filled_in (those p rows) ≡ 0
   unfilled p no_way =
       nothing p rows
-      (All-weaker (λ (f : FillRow). 0 < f.filled → row_price side f ≤ℤ own) (λ (f : FillRow). p f ≡ true → f.filled ≡ 0)
+      (All-weaker (λ (f : FillRow). 0 < f.filled → row_price side f ≤ℤ contra_price) (λ (f : FillRow). p f ≡ true → f.filled ≡ 0)
       (λ f h e. elim (cases_lt 0 f.filled) [ inl some ↦ absurd (no_way f e (h some)) | inr none ↦ omega arith ]) rows up_to_own)
 
   -- below the floor nothing trades
-  below_floor : (p : FillRow → Bool) → ((f : FillRow) → p f ≡ true → floor ≤ℤ row_price side f → ⊥) → filled_in (kept p rows) ≡ 0
+  below_floor : (p : FillRow → Bool) → ((f : FillRow) → p f ≡ true → floor ≤ℤ row_price side f → ⊥) → filled_in (those p rows) ≡ 0
   below_floor p no_way =
       nothing p rows
       (All-weaker _ (λ (f : FillRow). p f ≡ true → f.filled ≡ 0)
@@ -122,28 +122,28 @@ module _ (side : Side) (t : ContraTerms) (size : ℕ) (floor : ℤ) (told : List
     others f = of_other f && priced_at side z f
 
     abbrev k : ℕ
-    k = got of_customer (priced_at side z) rows
+    k = fill_of of_customer (priced_at side z) rows
 
     abbrev x : ℕ
-    x = got of_contra (priced_at side z) rows
+    x = fill_of of_contra (priced_at side z) rows
 
     abbrev o : ℕ
-    o = got of_other (priced_at side z) rows
+    o = fill_of of_other (priced_at side z) rows
 
     abbrev y : ℕ
-    y = filled_in (kept (priced_beyond side z) rows)
+    y = filled_in (those (priced_beyond side z) rows)
 
     abbrev m : ℕ
-    m = got of_contra (priced_below side z) rows
+    m = fill_of of_contra (priced_below side z) rows
 
     abbrev c : ℕ
-    c = asked of_customer (priced_at side z) rows
+    c = demand_of of_customer (priced_at side z) rows
 
     abbrev n : ℕ
-    n = asked of_other (priced_at side z) rows
+    n = demand_of of_other (priced_at side z) rows
 
     -- where a response at the price has contracts left nothing trades beyond
-    lack_of : (who : FillRow → Bool) → ((f : FillRow) → who f ≡ true → of_response f ≡ true) → got who (priced_at side z) rows < asked who (priced_at side z) rows → y ≡ 0
+    lack_of : (who : FillRow → Bool) → ((f : FillRow) → who f ≡ true → of_response f ≡ true) → fill_of who (priced_at side z) rows < demand_of who (priced_at side z) rows → y ≡ 0
     lack_of who is h =
         lacks (λ f. who f && priced_at side z f) (y ≡ 0) rows
         (All-weaker _ (λ (g : FillRow). (who g && priced_at side z g) ≡ true → 0 < g.left → y ≡ 0)
@@ -203,7 +203,7 @@ module _ (side : Side) (t : ContraTerms) (size : ℕ) (floor : ℤ) (told : List
         let v = at_is side of_other z g a in
         let le : row_price side g ≤ℤ row_price side f = grind (arith, ints) in
         let most = law (both_left (of_contra f) (priced_at side z f) e) (both_left (of_response g) (same_class Other g.class) (both_left (of_other g) (priced_at side z g) a)) left le in
-        omega (arith, contra_up_to side rows z, subst (λ (u : ℤ). got of_contra (priced_up_to side u) rows ≤ t.guaranteed) w most)) rows all)
+        omega (arith, contra_up_to side rows z, subst (λ (u : ℤ). fill_of of_contra (priced_up_to side u) rows ≤ t.guaranteed) w most)) rows all)
         few) rows contra.no_more_while_wanted)
         some
 
@@ -216,7 +216,7 @@ module _ (side : Side) (t : ContraTerms) (size : ℕ) (floor : ℤ) (told : List
         (All-weaker _ (λ (f : FillRow). others f ≡ true → 0 < f.filled → HasOrMatches)
         (λ f law e filled.
         let w = at_is side of_other z f e in
-        elim (subst (λ (u : ℤ). t.guarantee.price ≤ℤ u → (t.guaranteed ≤ got of_contra (priced_up_to side u) rows) ⊎ MatchedAll side t.guarantee.kind t.initiating u rows) w (law (both_left (of_other f) (priced_at side z f) e) filled) from) [
+        elim (subst (λ (u : ℤ). t.guarantee.price ≤ℤ u → (t.guaranteed ≤ fill_of of_contra (priced_up_to side u) rows) ⊎ MatchedAll side t.guarantee.kind t.initiating u rows) w (law (both_left (of_other f) (priced_at side z f) e) filled) from) [
           | inl has ↦ inl (omega (arith, contra_up_to side rows z))
           | inr all ↦ inr (all.by_limit, all.before_initiating, all.as_many ∙ responses_got side rows z, sym (responses_got side rows z) ∙ all.all_filled ∙ responses_asked side rows z)
         ]) rows contra.share_before_others)
@@ -226,7 +226,7 @@ module _ (side : Side) (t : ContraTerms) (size : ℕ) (floor : ℤ) (told : List
     lacking_some is some less =
         trades contras (m < t.guaranteed) rows
         (All-weaker _ (λ (f : FillRow). contras f ≡ true → 0 < f.filled → m < t.guaranteed)
-        (λ f law e _. subst (λ (u : ℤ). u <ℤ t.initiating → got of_contra (priced_below side u) rows < t.guaranteed) (at_is side of_contra z f e) (law (both_left (of_contra f) (priced_at side z f) e)) less) rows (contra.only_while_lacking is))
+        (λ f law e _. subst (λ (u : ℤ). u <ℤ t.initiating → fill_of of_contra (priced_below side u) rows < t.guaranteed) (at_is side of_contra z f e) (law (both_left (of_contra f) (priced_at side z f) e)) less) rows (contra.only_while_lacking is))
         some
 
     match_most : t.guarantee.kind ≡ AutoMatchLimit → 0 < x → z <ℤ t.initiating → (x ≤ k + o) ⊎ (x + o < n + (c + n))
@@ -234,7 +234,7 @@ module _ (side : Side) (t : ContraTerms) (size : ℕ) (floor : ℤ) (told : List
         trades contras ((x ≤ k + o) ⊎ (x + o < n + (c + n))) rows
         (All-weaker _ (λ (f : FillRow). contras f ≡ true → 0 < f.filled → (x ≤ k + o) ⊎ (x + o < n + (c + n)))
         (λ f law e _.
-        elim (subst (λ (u : ℤ). u <ℤ t.initiating → (got of_contra (priced_at side u) rows ≤ got of_response (priced_at side u) rows) ⊎ TooFewToMatch side u rows) (at_is side of_contra z f e) (law (both_left (of_contra f) (priced_at side z f) e)) less) [
+        elim (subst (λ (u : ℤ). u <ℤ t.initiating → (fill_of of_contra (priced_at side u) rows ≤ fill_of of_response (priced_at side u) rows) ⊎ TooFewToMatch side u rows) (at_is side of_contra z f e) (law (both_left (of_contra f) (priced_at side z f) e)) less) [
           | inl most ↦ inl (omega (arith, responses_got side rows z))
           | inr few ↦ inr (omega (arith, responses_asked side rows z))
         ]) rows (contra.match_at_most is))
@@ -250,18 +250,18 @@ module _ (side : Side) (t : ContraTerms) (size : ℕ) (floor : ℤ) (told : List
         (All-weaker _ (λ (g : FillRow). priced_beyond side z g ≡ true → 0 < g.filled → (t.guaranteed ≤ m) ⊎ (x ≡ k + o))
         (λ g law a filled.
         let above : z <ℤ row_price side g = grind (arith, ints) in
-        elim (subst (λ (u : ℤ). t.guarantee.price ≤ℤ u → u <ℤ t.initiating → 0 < g.filled → u <ℤ row_price side g → (t.guaranteed ≤ got of_contra (priced_below side u) rows) ⊎ Matched side u rows) w (law (both_left (of_response f) (priced_at side z f) e)) from less filled above) [
+        elim (subst (λ (u : ℤ). t.guarantee.price ≤ℤ u → u <ℤ t.initiating → 0 < g.filled → u <ℤ row_price side g → (t.guaranteed ≤ fill_of of_contra (priced_below side u) rows) ⊎ Matched side u rows) w (law (both_left (of_response f) (priced_at side z f) e)) from less filled above) [
           | inl has ↦ inl has
           | inr as_many ↦ inr (as_many ∙ responses_got side rows z)
         ]) rows all)
         on) rows (contra.matches_while_lacking is))
         (omega (arith, responses_asked side rows z))
 
-    facts : Facts t.guarantee.kind t z (size - filled_in (kept (priced_below side z) rows)) m c n k x o y
+    facts : Facts t.guarantee.kind t z (size - filled_in (those (priced_below side z) rows)) m c n k x o y
     facts = record {
       in_all = omega (arith, all_rows side rows z, at_price side rows z, laws.whole_size);
-      customers_most = got_most (kept customers rows);
-      others_most = got_most (kept others rows);
+      customers_most = got_most (those customers rows);
+      others_most = got_most (those others rows);
       lack = λ h. elim h [
         | inl few ↦ lack_of of_customer (λ f e. both_left (of_response f) (same_class Customer f.class) e) few
         | inr few ↦ lack_of of_other (λ f e. both_left (of_response f) (same_class Other f.class) e) few
@@ -278,7 +278,7 @@ module _ (side : Side) (t : ContraTerms) (size : ℕ) (floor : ℤ) (told : List
     }
 
     -- beyond the contra's own price nobody gets any
-    none_there : own <ℤ z → (k ≡ 0) × (x ≡ 0) × (o ≡ 0)
+    none_there : contra_price <ℤ z → (k ≡ 0) × (x ≡ 0) × (o ≡ 0)
     none_there less = (
       unfilled customers (λ f e most. let w = at_is side of_customer z f e in grind (arith, ints)),
       unfilled contras (λ f e most. let w = at_is side of_contra z f e in grind (arith, ints)),
@@ -296,15 +296,15 @@ before_is (pos zero) = omega arith
 before_is (pos (suc a)) = omega arith
 before_is (negsuc a) = omega arith
 
-module _ (side : Side) (t : ContraTerms) (size : ℕ) (floor : ℤ) (told : List Told) (rs ss : List FillRow)
+module _ (side : Side) (t : ContraTerms) (size : ℕ) (floor : ℤ) (stood : List StoodResponse) (rs ss : List FillRow)
     (high : t.guarantee.price ≤ℤ t.initiating)
-    (rl : FillLaws side size floor t.initiating told rs) (rc : ContraLaws side t.guarantee t.initiating t.guaranteed rs)
-    (sl : FillLaws side size floor t.initiating told ss) (sc : ContraLaws side t.guarantee t.initiating t.guaranteed ss) where
+    (rl : FillLaws side size floor t.initiating stood rs) (rc : ContraLaws side t.guarantee t.initiating t.guaranteed rs)
+    (sl : FillLaws side size floor t.initiating stood ss) (sc : ContraLaws side t.guarantee t.initiating t.guaranteed ss) where
   abbrev spent : List FillRow → ℤ → ℕ
-  spent rows z = filled_in (kept (priced_below side z) rows)
+  spent rows z = filled_in (those (priced_below side z) rows)
 
   abbrev so_far : List FillRow → ℤ → ℕ
-  so_far rows z = got of_contra (priced_below side z) rows
+  so_far rows z = fill_of of_contra (priced_below side z) rows
 
   -- below a price both filled as many, and the contra got as many
   abbrev Agree : ℤ → Type 0
@@ -312,33 +312,33 @@ module _ (side : Side) (t : ContraTerms) (size : ℕ) (floor : ℤ) (told : List
 
   abbrev SameAt : ℤ → Type 0
   SameAt z =
-      (got of_customer (priced_at side z) rs ≡ got of_customer (priced_at side z) ss)
-      × (got of_contra (priced_at side z) rs ≡ got of_contra (priced_at side z) ss)
-      × (got of_other (priced_at side z) rs ≡ got of_other (priced_at side z) ss)
+      (fill_of of_customer (priced_at side z) rs ≡ fill_of of_customer (priced_at side z) ss)
+      × (fill_of of_contra (priced_at side z) rs ≡ fill_of of_contra (priced_at side z) ss)
+      × (fill_of of_other (priced_at side z) rs ≡ fill_of of_other (priced_at side z) ss)
 
-  same_asked : (z : ℤ) (c : Class) → asked (λ f. of_response f && same_class c f.class) (priced_at side z) rs ≡ asked (λ f. of_response f && same_class c f.class) (priced_at side z) ss
-  same_asked z c = asked_by_those_told side z c size floor t.initiating told rs rl ∙ sym (asked_by_those_told side z c size floor t.initiating told ss sl)
+  same_asked : (z : ℤ) (c : Class) → demand_of (λ f. of_response f && same_class c f.class) (priced_at side z) rs ≡ demand_of (λ f. of_response f && same_class c f.class) (priced_at side z) ss
+  same_asked z c = asked_by_those_that_stood side z c size floor t.initiating stood rs rl ∙ sym (asked_by_those_that_stood side z c size floor t.initiating stood ss sl)
 
   same_at : (z : ℤ) → Agree z → SameAt z
   same_at z e = go (lt_z (contra_level t.guarantee.kind t) z) refl
     where
       go : (b : Bool) → lt_z (contra_level t.guarantee.kind t) z ≡ b → SameAt z
       go true h =
-          let a = none_there side t size floor told rs rl rc z (grind (arith, ints)) in
-          let b = none_there side t size floor told ss sl sc z (grind (arith, ints)) in
+          let a = none_there side t size floor stood rs rl rc z (grind (arith, ints)) in
+          let b = none_there side t size floor stood ss sl sc z (grind (arith, ints)) in
           (a.0 ∙ sym b.0, a.1 ∙ sym b.1, a.2 ∙ sym b.2)
       go false h =
           let under : z ≤ℤ contra_level t.guarantee.kind t = grind (arith, ints) in
-          let a = shares_decided t z (size - spent rs z) (so_far rs z) (asked of_customer (priced_at side z) rs) (asked of_other (priced_at side z) rs)
-          (got of_customer (priced_at side z) rs) (got of_contra (priced_at side z) rs) (got of_other (priced_at side z) rs) (filled_in (kept (priced_beyond side z) rs))
-          (facts side t size floor told rs rl rc z) under high in
-          let b = shares_decided t z (size - spent ss z) (so_far ss z) (asked of_customer (priced_at side z) ss) (asked of_other (priced_at side z) ss)
-          (got of_customer (priced_at side z) ss) (got of_contra (priced_at side z) ss) (got of_other (priced_at side z) ss) (filled_in (kept (priced_beyond side z) ss))
-          (facts side t size floor told ss sl sc z) under high in
-          let same = ap (λ (n : ℕ). split t z (size - n) (so_far rs z) (asked of_customer (priced_at side z) rs) (asked of_other (priced_at side z) rs)) e.0
-          ∙ ap (λ (n : ℕ). split t z (size - spent ss z) n (asked of_customer (priced_at side z) rs) (asked of_other (priced_at side z) rs)) e.1
-          ∙ ap (λ (n : ℕ). split t z (size - spent ss z) (so_far ss z) n (asked of_other (priced_at side z) rs)) (same_asked z Customer)
-          ∙ ap (λ (n : ℕ). split t z (size - spent ss z) (so_far ss z) (asked of_customer (priced_at side z) ss) n) (same_asked z Other) in
+          let a = shares_decided t z (size - spent rs z) (so_far rs z) (demand_of of_customer (priced_at side z) rs) (demand_of of_other (priced_at side z) rs)
+          (fill_of of_customer (priced_at side z) rs) (fill_of of_contra (priced_at side z) rs) (fill_of of_other (priced_at side z) rs) (filled_in (those (priced_beyond side z) rs))
+          (facts side t size floor stood rs rl rc z) under high in
+          let b = shares_decided t z (size - spent ss z) (so_far ss z) (demand_of of_customer (priced_at side z) ss) (demand_of of_other (priced_at side z) ss)
+          (fill_of of_customer (priced_at side z) ss) (fill_of of_contra (priced_at side z) ss) (fill_of of_other (priced_at side z) ss) (filled_in (those (priced_beyond side z) ss))
+          (facts side t size floor stood ss sl sc z) under high in
+          let same = ap (λ (n : ℕ). split t z (size - n) (so_far rs z) (demand_of of_customer (priced_at side z) rs) (demand_of of_other (priced_at side z) rs)) e.0
+          ∙ ap (λ (n : ℕ). split t z (size - spent ss z) n (demand_of of_customer (priced_at side z) rs) (demand_of of_other (priced_at side z) rs)) e.1
+          ∙ ap (λ (n : ℕ). split t z (size - spent ss z) (so_far ss z) n (demand_of of_other (priced_at side z) rs)) (same_asked z Customer)
+          ∙ ap (λ (n : ℕ). split t z (size - spent ss z) (so_far ss z) (demand_of of_customer (priced_at side z) ss) n) (same_asked z Other) in
           (a.0 ∙ ap (λ s. s.customers) same ∙ sym b.0, a.1 ∙ ap (λ s. s.contra) same ∙ sym b.1, a.2 ∙ ap (λ s. s.others) same ∙ sym b.2)
 
   agree_next : (z y : ℤ) → up y + down z ≡ up z + down y + 1 → Agree z → SameAt z → Agree y
@@ -349,9 +349,9 @@ module _ (side : Side) (t : ContraTerms) (size : ℕ) (floor : ℤ) (told : List
 
   agree : (d : ℕ) (z : ℤ) → up z + down floor ≤ up floor + down z + d → Agree z
   agree zero z near = (
-    below_floor side t size floor told rs rl rc (priced_below side z) (λ f h le. grind (arith, ints)) ∙ sym (below_floor side t size floor told ss sl sc (priced_below side z) (λ f h le. grind (arith, ints))),
-    below_floor side t size floor told rs rl rc (λ f. of_contra f && priced_below side z f) (λ f h le. let less = both_right (of_contra f) (priced_below side z f) h in grind (arith, ints))
-        ∙ sym (below_floor side t size floor told ss sl sc (λ f. of_contra f && priced_below side z f) (λ f h le. let less = both_right (of_contra f) (priced_below side z f) h in grind (arith, ints))),
+    below_floor side t size floor stood rs rl rc (priced_below side z) (λ f h le. grind (arith, ints)) ∙ sym (below_floor side t size floor stood ss sl sc (priced_below side z) (λ f h le. grind (arith, ints))),
+    below_floor side t size floor stood rs rl rc (λ f. of_contra f && priced_below side z f) (λ f h le. let less = both_right (of_contra f) (priced_below side z f) h in grind (arith, ints))
+        ∙ sym (below_floor side t size floor stood ss sl sc (λ f. of_contra f && priced_below side z f) (λ f h le. let less = both_right (of_contra f) (priced_below side z f) h in grind (arith, ints))),
   )
   agree (suc d) z near =
       let y = before z in

@@ -6,7 +6,7 @@ use Rattle.std.proofs.ByRecursion.{All-append, All-weaker}
 use Rattle.std.proofs.lemmas.List.{append-nil, map-append}
 use Rattle.std.proofs.lemmas.Bool.{ltb-true, ltb-false, cases_lt, cond_both, both_ways}
 use Rattle.market.specs.declared.side.Side.{Side}
-use Rattle.market.specs.Side.{turned}
+use Rattle.market.specs.Side.{turned_price}
 use Rattle.allocation.specs.declared.fill.FillRow.{FillRow}
 use Rattle.allocation.specs.declared.order.ContraTerms.{ContraTerms}
 use Rattle.allocation.specs.declared.order.GuaranteeKind.{GuaranteeKind}
@@ -14,11 +14,11 @@ use Rattle.allocation.specs.declared.order.GuaranteeKind.TheVariants.{SingleStop
 use Rattle.allocation.specs.declared.response.Class.{Class}
 use Rattle.allocation.specs.declared.response.Class.TheVariants.{Customer, Other}
 use Rattle.allocation.specs.declared.response.Response.{Response}
-use Rattle.allocation.specs.FillLaws.{row_listed, of_response, kept, filled_in, size_in, same_class, classmate, classmates, ProRata, ContraRow}
+use Rattle.allocation.specs.FillLaws.{row_listing, of_response, those, filled_in, size_in, same_class, classmate, classmates, ProRata, ContraRow}
 use Rattle.allocation.specs.Fill.{shared_rows, contra_row, contra_rows, level_rows, split_at}
 use Rattle.allocation.specs.Levels.{Level, contra_level}
 use Rattle.allocation.specs.Share.{sizes, total}
-use Rattle.allocation.specs.Split.{Split, taken}
+use Rattle.allocation.specs.Split.{Split, total_taken}
 use Rattle.allocation.proofs.ClassRows.{ClassRows, listed, class_laws, rows_none}
 use Rattle.allocation.proofs.LevelShape.{At, Holds}
 use Rattle.allocation.proofs.Mates.{turned_twice, mate_same, mate_contra, mate_class, near_mates}
@@ -31,7 +31,7 @@ Stands floor initiating x = (0 < x.member) × (0 < x.size) × (floor ≤ℤ x.pr
 
 -- rows of k contracts that the contra got at a price
 pub record ContraRows (side : Side) (price : ℤ) (k : ℕ) (rows : List FillRow) : Type 0 where
-  pub at_price : AllByRecursion (λ (f : FillRow). f.price ≡ turned side price) rows
+  pub at_price : AllByRecursion (λ (f : FillRow). f.price ≡ turned_price side price) rows
   pub of_class : AllByRecursion (λ (f : FillRow). f.class ≡ Other) rows
   pub of_none : AllByRecursion (λ (f : FillRow). of_response f ≡ false) rows
   pub are_contra : AllByRecursion ContraRow rows
@@ -63,38 +63,38 @@ own_in_range SingleStop t h = h
 own_in_range AutoMatchLimit t h = grind (arith, ints)
 
 -- rows of a level, with a split s of the r contracts that were left
-pub record LevelLaws (side : Side) (own floor initiating : ℤ) (l : Level) (r : ℕ) (s : Split) (rows : List FillRow) : Type 0 where
-  pub listed_are : map row_listed (kept of_response rows) ≡ map (listed side) l.customers ++ map (listed side) l.others
+pub record LevelLaws (side : Side) (contra_price floor initiating : ℤ) (l : Level) (r : ℕ) (s : Split) (rows : List FillRow) : Type 0 where
+  pub listed_are : map row_listing (those of_response rows) ≡ map (listed side) l.customers ++ map (listed side) l.others
   pub contras : AllByRecursion (λ (f : FillRow). of_response f ≡ false → ContraRow f) rows
-  pub filled_is : filled_in rows ≡ taken s
-  pub at_price : AllByRecursion (λ (f : FillRow). f.price ≡ turned side l.price) rows
-  pub in_range : Reached own l.price r → AllByRecursion (λ (f : FillRow). 0 < f.filled → (floor ≤ℤ turned side f.price) × (turned side f.price ≤ℤ initiating)) rows
-  pub lack : Reached own l.price r → AllByRecursion (λ (g : FillRow). of_response g ≡ true → 0 < g.left → taken s ≡ r) rows
+  pub filled_is : filled_in rows ≡ total_taken s
+  pub at_price : AllByRecursion (λ (f : FillRow). f.price ≡ turned_price side l.price) rows
+  pub in_range : Reached contra_price l.price r → AllByRecursion (λ (f : FillRow). 0 < f.filled → (floor ≤ℤ turned_price side f.price) × (turned_price side f.price ≤ℤ initiating)) rows
+  pub lack : Reached contra_price l.price r → AllByRecursion (λ (g : FillRow). of_response g ≡ true → 0 < g.left → total_taken s ≡ r) rows
   pub customers_first : AllByRecursion (λ (f : FillRow). AllByRecursion (λ (g : FillRow). g.class ≡ Customer → 0 < g.left → f.class ≡ Other → f.filled ≡ 0) rows) rows
   pub pro_rata : AllByRecursion (λ (f : FillRow). of_response f ≡ true → ProRata (filled_in (classmates f rows)) (size_in (classmates f rows)) f) rows
 
 pub not_both : (c : Class) → c ≡ Customer → c ≡ Other → ⊥
 not_both c p q = let z : ◌≡◌ {A = ℕ} 0 1 = cc in omega arith
 
-module _ (side : Side) (own floor initiating : ℤ) (l : Level) (r : ℕ) (s : Split) (C K O : List FillRow)
+module _ (side : Side) (contra_price floor initiating : ℤ) (l : Level) (r : ℕ) (s : Split) (C K O : List FillRow)
     (cs : ClassRows side l.price Customer s.customers (total (sizes l.customers)) l.customers C)
     (ks : ContraRows side l.price s.contra K)
     (os : ClassRows side l.price Other s.others (total (sizes l.others)) l.others O)
-    (laws : SplitLaws own l.price r (total (sizes l.customers)) (total (sizes l.others)) s) where
+    (laws : SplitLaws contra_price l.price r (total (sizes l.customers)) (total (sizes l.others)) s) where
   -- what holds of the rows of each of the three holds of the level's
   all_three : (P : FillRow → Type 0) → AllByRecursion P C → AllByRecursion P K → AllByRecursion P O → AllByRecursion P (C ++ (K ++ O))
   all_three P a b c = All-append P C (K ++ O) a (All-append P K O b c)
 
-  kept_three : (p : FillRow → Bool) (x y z : List FillRow) → kept p C ≡ x → kept p K ≡ y → kept p O ≡ z → kept p (C ++ (K ++ O)) ≡ x ++ (y ++ z)
+  kept_three : (p : FillRow → Bool) (x y z : List FillRow) → those p C ≡ x → those p K ≡ y → those p O ≡ z → those p (C ++ (K ++ O)) ≡ x ++ (y ++ z)
   kept_three p x y z a b c = let one = kept_append p C (K ++ O) in let two = kept_append p K O in cc
 
-  level_listed : map row_listed (kept of_response (C ++ (K ++ O))) ≡ map (listed side) l.customers ++ map (listed side) l.others
+  level_listed : map row_listing (those of_response (C ++ (K ++ O))) ≡ map (listed side) l.customers ++ map (listed side) l.others
   level_listed =
       let rows = kept_three of_response C [] O (kept_all of_response C cs.of_responses) (kept_none of_response K ks.of_none) (kept_all of_response O os.of_responses) in
-      let split_up = map-append row_listed C O in
+      let split_up = map-append row_listing C O in
       let c = cs.listed_are in
       let o = os.listed_are in
-      cc (ap (map row_listed) rows)
+      cc (ap (map row_listing) rows)
 
   level_contras : AllByRecursion (λ (f : FillRow). of_response f ≡ false → ContraRow f) (C ++ (K ++ O))
   level_contras =
@@ -103,23 +103,23 @@ module _ (side : Side) (own floor initiating : ℤ) (l : Level) (r : ℕ) (s : S
       (All-weaker ContraRow (λ f. of_response f ≡ false → ContraRow f) (λ f k _. k) K ks.are_contra)
       (All-weaker (λ f. of_response f ≡ true) (λ f. of_response f ≡ false → ContraRow f) (λ f y n. absurd (both_ways (of_response f) n y)) O os.of_responses)
 
-  level_filled : filled_in (C ++ (K ++ O)) ≡ taken s
+  level_filled : filled_in (C ++ (K ++ O)) ≡ total_taken s
   level_filled = omega (arith, sum_append (λ (f : FillRow). f.filled) C (K ++ O), sum_append (λ (f : FillRow). f.filled) K O, cs.filled_is, ks.filled_is, os.filled_is)
 
-  level_price : AllByRecursion (λ (f : FillRow). f.price ≡ turned side l.price) (C ++ (K ++ O))
-  level_price = all_three (λ f. f.price ≡ turned side l.price) cs.at_price ks.at_price os.at_price
+  level_price : AllByRecursion (λ (f : FillRow). f.price ≡ turned_price side l.price) (C ++ (K ++ O))
+  level_price = all_three (λ f. f.price ≡ turned_price side l.price) cs.at_price ks.at_price os.at_price
 
-  level_range : (0 < taken s → (floor ≤ℤ l.price) × (l.price ≤ℤ initiating)) → AllByRecursion (λ (f : FillRow). 0 < f.filled → (floor ≤ℤ turned side f.price) × (turned side f.price ≤ℤ initiating)) (C ++ (K ++ O))
+  level_range : (0 < total_taken s → (floor ≤ℤ l.price) × (l.price ≤ℤ initiating)) → AllByRecursion (λ (f : FillRow). 0 < f.filled → (floor ≤ℤ turned_price side f.price) × (turned_price side f.price ≤ℤ initiating)) (C ++ (K ++ O))
   level_range h =
-      let P : FillRow → Type 0 = λ f. 0 < f.filled → (floor ≤ℤ turned side f.price) × (turned side f.price ≤ℤ initiating) in
-      elim (cases_lt 0 (taken s)) [
-        | inl some ↦ All-weaker (λ f. f.price ≡ turned side l.price) P (λ f e _. subst (λ (z : ℤ). (floor ≤ℤ z) × (z ≤ℤ initiating)) (sym (ap (turned side) e ∙ turned_twice side l.price)) (h some)) (C ++ (K ++ O)) level_price
+      let P : FillRow → Type 0 = λ f. 0 < f.filled → (floor ≤ℤ turned_price side f.price) × (turned_price side f.price ≤ℤ initiating) in
+      elim (cases_lt 0 (total_taken s)) [
+        | inl some ↦ All-weaker (λ f. f.price ≡ turned_price side l.price) P (λ f e _. subst (λ (z : ℤ). (floor ≤ℤ z) × (z ≤ℤ initiating)) (sym (ap (turned_price side) e ∙ turned_twice side l.price)) (h some)) (C ++ (K ++ O)) level_price
         | inr none ↦ All-weaker (λ f. f.filled ≡ 0) P (λ f e k. absurd (omega arith)) (C ++ (K ++ O)) (rows_none (C ++ (K ++ O)) (omega (arith, level_filled)))
       ]
 
-  level_lack : Reached own l.price r → AllByRecursion (λ (g : FillRow). of_response g ≡ true → 0 < g.left → taken s ≡ r) (C ++ (K ++ O))
+  level_lack : Reached contra_price l.price r → AllByRecursion (λ (g : FillRow). of_response g ≡ true → 0 < g.left → total_taken s ≡ r) (C ++ (K ++ O))
   level_lack reached =
-      let P : FillRow → Type 0 = λ g. of_response g ≡ true → 0 < g.left → taken s ≡ r in
+      let P : FillRow → Type 0 = λ g. of_response g ≡ true → 0 < g.left → total_taken s ≡ r in
       all_three P
       (All-weaker (λ g. 0 < g.left → s.customers < total (sizes l.customers)) P (λ g h _ k. (laws.customers_lack (h k)).2) C cs.lack)
       (All-weaker (λ g. of_response g ≡ false) P (λ g n y _. absurd (both_ways (of_response g) n y)) K ks.of_none)
@@ -153,36 +153,36 @@ module _ (side : Side) (own floor initiating : ℤ) (l : Level) (r : ℕ) (s : S
       R f g = g.class ≡ Customer → 0 < g.left → f.class ≡ Other → f.filled ≡ 0
 
   -- the classmates of a customer's row are the customers' rows, and those of another response's row the others'
-  pub mates_of_customers : (f : FillRow) → f.class ≡ Customer → f.price ≡ turned side l.price → classmates f (C ++ (K ++ O)) ≡ C
+  pub mates_of_customers : (f : FillRow) → f.class ≡ Customer → f.price ≡ turned_price side l.price → classmates f (C ++ (K ++ O)) ≡ C
   mates_of_customers f c p =
       kept_three (classmate f) C [] []
-      (kept_all (classmate f) C (all_both (λ g. of_response g ≡ true) (λ g. (g.class ≡ Customer) × (g.price ≡ turned side l.price)) (λ g. classmate f g ≡ true) (λ g y h. mate_same f g y (c ∙ sym h.0) (p ∙ sym h.1)) C cs.of_responses
-      (all_both (λ g. g.class ≡ Customer) (λ g. g.price ≡ turned side l.price) (λ g. (g.class ≡ Customer) × (g.price ≡ turned side l.price)) (λ g a b. (a, b)) C cs.of_class cs.at_price)))
+      (kept_all (classmate f) C (all_both (λ g. of_response g ≡ true) (λ g. (g.class ≡ Customer) × (g.price ≡ turned_price side l.price)) (λ g. classmate f g ≡ true) (λ g y h. mate_same f g y (c ∙ sym h.0) (p ∙ sym h.1)) C cs.of_responses
+      (all_both (λ g. g.class ≡ Customer) (λ g. g.price ≡ turned_price side l.price) (λ g. (g.class ≡ Customer) × (g.price ≡ turned_price side l.price)) (λ g a b. (a, b)) C cs.of_class cs.at_price)))
       (kept_none (classmate f) K (All-weaker (λ g. of_response g ≡ false) (λ g. classmate f g ≡ false) (λ g n. mate_contra f g n) K ks.of_none))
       (kept_none (classmate f) O (All-weaker (λ g. g.class ≡ Other) (λ g. classmate f g ≡ false) (λ g o. mate_class f g (ap (λ (x : Class). same_class x g.class) c ∙ ap (same_class Customer) o)) O os.of_class))
       ∙ append-nil C
 
-  pub mates_of_others : (f : FillRow) → f.class ≡ Other → f.price ≡ turned side l.price → classmates f (C ++ (K ++ O)) ≡ O
+  pub mates_of_others : (f : FillRow) → f.class ≡ Other → f.price ≡ turned_price side l.price → classmates f (C ++ (K ++ O)) ≡ O
   mates_of_others f c p =
       kept_three (classmate f) [] [] O
       (kept_none (classmate f) C (All-weaker (λ g. g.class ≡ Customer) (λ g. classmate f g ≡ false) (λ g o. mate_class f g (ap (λ (x : Class). same_class x g.class) c ∙ ap (same_class Other) o)) C cs.of_class))
       (kept_none (classmate f) K (All-weaker (λ g. of_response g ≡ false) (λ g. classmate f g ≡ false) (λ g n. mate_contra f g n) K ks.of_none))
-      (kept_all (classmate f) O (all_both (λ g. of_response g ≡ true) (λ g. (g.class ≡ Other) × (g.price ≡ turned side l.price)) (λ g. classmate f g ≡ true) (λ g y h. mate_same f g y (c ∙ sym h.0) (p ∙ sym h.1)) O os.of_responses
-      (all_both (λ g. g.class ≡ Other) (λ g. g.price ≡ turned side l.price) (λ g. (g.class ≡ Other) × (g.price ≡ turned side l.price)) (λ g a b. (a, b)) O os.of_class os.at_price)))
+      (kept_all (classmate f) O (all_both (λ g. of_response g ≡ true) (λ g. (g.class ≡ Other) × (g.price ≡ turned_price side l.price)) (λ g. classmate f g ≡ true) (λ g y h. mate_same f g y (c ∙ sym h.0) (p ∙ sym h.1)) O os.of_responses
+      (all_both (λ g. g.class ≡ Other) (λ g. g.price ≡ turned_price side l.price) (λ g. (g.class ≡ Other) × (g.price ≡ turned_price side l.price)) (λ g a b. (a, b)) O os.of_class os.at_price)))
 
   level_near : AllByRecursion (λ (f : FillRow). of_response f ≡ true → ProRata (filled_in (classmates f (C ++ (K ++ O)))) (size_in (classmates f (C ++ (K ++ O)))) f) (C ++ (K ++ O))
   level_near =
       all_three P
-      (all_both (λ f. (f.class ≡ Customer) × (f.price ≡ turned side l.price)) (ProRata s.customers (total (sizes l.customers))) P
+      (all_both (λ f. (f.class ≡ Customer) × (f.price ≡ turned_price side l.price)) (ProRata s.customers (total (sizes l.customers))) P
       (λ f h n _. near_mates f rows C (mates_of_customers f h.0 h.1) (given f C s.customers (total (sizes l.customers)) cs.filled_is cs.size_is n))
       C
-      (all_both (λ f. f.class ≡ Customer) (λ f. f.price ≡ turned side l.price) (λ f. (f.class ≡ Customer) × (f.price ≡ turned side l.price)) (λ f a b. (a, b)) C cs.of_class cs.at_price)
+      (all_both (λ f. f.class ≡ Customer) (λ f. f.price ≡ turned_price side l.price) (λ f. (f.class ≡ Customer) × (f.price ≡ turned_price side l.price)) (λ f a b. (a, b)) C cs.of_class cs.at_price)
       cs.near)
       (All-weaker (λ f. of_response f ≡ false) P (λ f n y. absurd (both_ways (of_response f) n y)) K ks.of_none)
-      (all_both (λ f. (f.class ≡ Other) × (f.price ≡ turned side l.price)) (ProRata s.others (total (sizes l.others))) P
+      (all_both (λ f. (f.class ≡ Other) × (f.price ≡ turned_price side l.price)) (ProRata s.others (total (sizes l.others))) P
       (λ f h n _. near_mates f rows O (mates_of_others f h.0 h.1) (given f O s.others (total (sizes l.others)) os.filled_is os.size_is n))
       O
-      (all_both (λ f. f.class ≡ Other) (λ f. f.price ≡ turned side l.price) (λ f. (f.class ≡ Other) × (f.price ≡ turned side l.price)) (λ f a b. (a, b)) O os.of_class os.at_price)
+      (all_both (λ f. f.class ≡ Other) (λ f. f.price ≡ turned_price side l.price) (λ f. (f.class ≡ Other) × (f.price ≡ turned_price side l.price)) (λ f a b. (a, b)) O os.of_class os.at_price)
       os.near)
     where
       rows : List FillRow
@@ -195,11 +195,11 @@ module _ (side : Side) (own floor initiating : ℤ) (l : Level) (r : ℕ) (s : S
       given f gs k n a b h = subst (λ (x : ℕ). ProRata x (size_in gs) f) (sym a) (subst (λ (x : ℕ). ProRata k x f) (sym b) h)
 
 -- the rows of a level, class by class, and how it is split
-pub record LevelClasses (side : Side) (own : ℤ) (l : Level) (r : ℕ) (s : Split) : Type 0 where
+pub record LevelClasses (side : Side) (contra_price : ℤ) (l : Level) (r : ℕ) (s : Split) : Type 0 where
   pub of_customers : ClassRows side l.price Customer s.customers (total (sizes l.customers)) l.customers (shared_rows side s.customers l.customers)
   pub of_contra : ContraRows side l.price s.contra (contra_rows side l.price s.contra)
   pub of_others : ClassRows side l.price Other s.others (total (sizes l.others)) l.others (shared_rows side s.others l.others)
-  pub split_up : SplitLaws own l.price r (total (sizes l.customers)) (total (sizes l.others)) s
+  pub split_up : SplitLaws contra_price l.price r (total (sizes l.customers)) (total (sizes l.others)) s
 
 pub level_classes : (side : Side) (t : ContraTerms) (floor : ℤ) (l : Level) (r m : ℕ) → Holds l → AllByRecursion (Stands floor t.initiating) l.customers → AllByRecursion (Stands floor t.initiating) l.others → t.guarantee.price ≤ℤ t.initiating → LevelClasses side (contra_level t.guarantee.kind t) l r (split_at t l r m)
 level_classes side t floor l r m holds customers others high = record {
@@ -224,18 +224,18 @@ level_classes side t floor l r m holds customers others high = record {
 pub level_laws : (side : Side) (t : ContraTerms) (floor : ℤ) (l : Level) (r m : ℕ) → Holds l → AllByRecursion (Stands floor t.initiating) l.customers → AllByRecursion (Stands floor t.initiating) l.others → floor ≤ℤ contra_level t.guarantee.kind t → t.guarantee.price ≤ℤ t.initiating → LevelLaws side (contra_level t.guarantee.kind t) floor t.initiating l r (split_at t l r m) (level_rows side l (split_at t l r m))
 level_laws side t floor l r m holds customers others low high =
     record {
-      listed_are = level_listed side own floor t.initiating l r s C K O cs ks os laws;
-      contras = level_contras side own floor t.initiating l r s C K O cs ks os laws;
-      filled_is = level_filled side own floor t.initiating l r s C K O cs ks os laws;
-      at_price = level_price side own floor t.initiating l r s C K O cs ks os laws;
-      in_range = λ reached. level_range side own floor t.initiating l r s C K O cs ks os laws (range reached);
-      lack = λ reached. level_lack side own floor t.initiating l r s C K O cs ks os laws reached;
-      customers_first = level_customers side own floor t.initiating l r s C K O cs ks os laws;
-      pro_rata = level_near side own floor t.initiating l r s C K O cs ks os laws;
+      listed_are = level_listed side contra_price floor t.initiating l r s C K O cs ks os laws;
+      contras = level_contras side contra_price floor t.initiating l r s C K O cs ks os laws;
+      filled_is = level_filled side contra_price floor t.initiating l r s C K O cs ks os laws;
+      at_price = level_price side contra_price floor t.initiating l r s C K O cs ks os laws;
+      in_range = λ reached. level_range side contra_price floor t.initiating l r s C K O cs ks os laws (range reached);
+      lack = λ reached. level_lack side contra_price floor t.initiating l r s C K O cs ks os laws reached;
+      customers_first = level_customers side contra_price floor t.initiating l r s C K O cs ks os laws;
+      pro_rata = level_near side contra_price floor t.initiating l r s C K O cs ks os laws;
     }
   where
-    own : ℤ
-    own = contra_level t.guarantee.kind t
+    contra_price : ℤ
+    contra_price = contra_level t.guarantee.kind t
 
     c : ℕ
     c = total (sizes l.customers)
@@ -246,10 +246,10 @@ level_laws side t floor l r m holds customers others low high =
     s : Split
     s = split_at t l r m
 
-    classes : LevelClasses side own l r s
+    classes : LevelClasses side contra_price l r s
     classes = level_classes side t floor l r m holds customers others high
 
-    laws : SplitLaws own l.price r c n s
+    laws : SplitLaws contra_price l.price r c n s
     laws = classes.split_up
 
     C : List FillRow
@@ -276,10 +276,10 @@ level_laws side t floor l r m holds customers others low high =
       | inr k ↦ asked_range floor t.initiating l.price Other l.others holds.others_here others (omega arith)
     ]
 
-    at_own : l.price ≡ own → (floor ≤ℤ l.price) × (l.price ≤ℤ t.initiating)
+    at_own : l.price ≡ contra_price → (floor ≤ℤ l.price) × (l.price ≤ℤ t.initiating)
     at_own e = subst (λ (z : ℤ). (floor ≤ℤ z) × (z ≤ℤ t.initiating)) (sym e) (low, own_in_range t.guarantee.kind t high)
 
-    range : Reached own l.price r → 0 < taken s → (floor ≤ℤ l.price) × (l.price ≤ℤ t.initiating)
+    range : Reached contra_price l.price r → 0 < total_taken s → (floor ≤ℤ l.price) × (l.price ≤ℤ t.initiating)
     range reached h = elim (cases_lt 0 s.contra) [
       | inl k ↦ elim (laws.contra_where reached k) [ inl e ↦ at_own e | inr k' ↦ stood k' ]
       | inr k ↦ stood (omega (arith, laws.customers_are, laws.asked))

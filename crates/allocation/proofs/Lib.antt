@@ -16,15 +16,16 @@ mod ContraRows
 mod FillFacts
 mod InOrder
 mod RowOrder
-mod ToldApart
+mod StoodApart
 mod RowsDecide
 mod ContraFacts
 mod Writes
-mod Puts
+mod Insertions
 mod WalkSteps
 mod WalkFacts
 pub mod FillProved
-mod Places
+mod AuctionFills
+mod Indexes
 pub mod OwnResponses
 pub mod AuctionKept
 pub mod OwnsKept

@@ -2,25 +2,25 @@
 use Rattle.std.proofs.Common.{◌≡◌, ℕ, ◌+◌, Bool, true, false, cond, List, [], ◌∷◌, ◌++◌, map, refl, ap, ◌∙◌, arith}
 use Rattle.std.specs.List.{AllByRecursion}
 use Rattle.std.proofs.ByRecursion.{All-append}
-use Rattle.allocation.specs.FillLaws.{kept}
+use Rattle.allocation.specs.FillLaws.{those}
 use Rattle.allocation.specs.Share.{total}
 
 module _ {X : Type 0} (p : X → Bool) where
-  pub kept_append : (xs ys : List X) → kept p (xs ++ ys) ≡ kept p xs ++ kept p ys
+  pub kept_append : (xs ys : List X) → those p (xs ++ ys) ≡ those p xs ++ those p ys
   kept_append [] ys = refl
   kept_append (x ∷ xs) ys =
-      elim (p x) as (λ b. cond b (x ∷ kept p (xs ++ ys)) (kept p (xs ++ ys)) ≡ cond b (x ∷ kept p xs) (kept p xs) ++ kept p ys) [
+      elim (p x) as (λ b. cond b (x ∷ those p (xs ++ ys)) (those p (xs ++ ys)) ≡ cond b (x ∷ those p xs) (those p xs) ++ those p ys) [
         | true ↦ ap (λ (zs : List X). x ∷ zs) (kept_append xs ys)
         | false ↦ kept_append xs ys
       ]
 
-  pub kept_none : (xs : List X) → AllByRecursion (λ x. p x ≡ false) xs → kept p xs ≡ []
+  pub kept_none : (xs : List X) → AllByRecursion (λ x. p x ≡ false) xs → those p xs ≡ []
   kept_none [] a = refl
-  kept_none (x ∷ xs) (e, a) = ap (λ b. cond b (x ∷ kept p xs) (kept p xs)) e ∙ kept_none xs a
+  kept_none (x ∷ xs) (e, a) = ap (λ b. cond b (x ∷ those p xs) (those p xs)) e ∙ kept_none xs a
 
-  pub kept_all : (xs : List X) → AllByRecursion (λ x. p x ≡ true) xs → kept p xs ≡ xs
+  pub kept_all : (xs : List X) → AllByRecursion (λ x. p x ≡ true) xs → those p xs ≡ xs
   kept_all [] a = refl
-  kept_all (x ∷ xs) (e, a) = ap (λ b. cond b (x ∷ kept p xs) (kept p xs)) e ∙ ap (λ (zs : List X). x ∷ zs) (kept_all xs a)
+  kept_all (x ∷ xs) (e, a) = ap (λ b. cond b (x ∷ those p xs) (those p xs)) e ∙ ap (λ (zs : List X). x ∷ zs) (kept_all xs a)
 
 module _ {X : Type 0} where
   pub sum_append : (f : X → ℕ) (xs ys : List X) → total (map f (xs ++ ys)) ≡ total (map f xs) + total (map f ys)

@@ -8,7 +8,7 @@ use Rattle.std.proofs.lemmas.List.Recursion.{is_sum_by}
 use Rattle.std.proofs.lemmas.List.Sums.{sum-map, get_or-le-sum_by}
 use Rattle.allocation.specs.declared.response.Response.{Response}
 use Rattle.allocation.specs.LevelSteps.{Sized}
-use Rattle.allocation.specs.Share.{sizes, total, parts_total, dealt, shared}
+use Rattle.allocation.specs.Share.{sizes, total, parts_total, deal, shares}
 
 -- Shares fs of k contracts among sizes ss.
 pub record Fair (k : ℕ) (ss fs : List ℕ) : Type 0 where
@@ -29,11 +29,11 @@ pub total_most : (xs : List Response) → AllByRecursion Sized xs → total (siz
 total_most [] h = omega arith
 total_most (x ∷ xs) (s, a) = omega (arith, total_most xs a)
 
-pub length_dealt : (k t odd : ℕ) (ss : List ℕ) → length (dealt k t odd ss) ≡ length ss
+pub length_dealt : (k t odd : ℕ) (ss : List ℕ) → length (deal k t odd ss) ≡ length ss
 length_dealt k t odd [] = refl
 length_dealt k t odd (s ∷ ss) = ap suc (length_dealt k t (odd - 1) ss)
 
-pub total_dealt : (k t odd : ℕ) (ss : List ℕ) → odd ≤ length ss → total (dealt k t odd ss) ≡ parts_total k t ss + odd
+pub total_dealt : (k t odd : ℕ) (ss : List ℕ) → odd ≤ length ss → total (deal k t odd ss) ≡ parts_total k t ss + odd
 total_dealt k t odd [] h = omega arith
 total_dealt k t odd (s ∷ ss) h = omega (arith, total_dealt k t (odd - 1) ss (omega arith))
 
@@ -81,7 +81,7 @@ pub parts_all : (t : ℕ) (ss : List ℕ) → 0 < t → parts_total t t ss ≡ t
 parts_all t [] p = refl
 parts_all t (s ∷ ss) p = omega (arith, parts_all t ss p, mul-div_cancel_left s {n = t} p)
 
-pub dealt_all : (t : ℕ) (ss : List ℕ) → 0 < t → dealt t t 0 ss ≡ ss
+pub dealt_all : (t : ℕ) (ss : List ℕ) → 0 < t → deal t t 0 ss ≡ ss
 dealt_all t [] p = refl
 dealt_all t (s ∷ ss) p =
     let head : t * s / t + 0 ≡ s = omega (arith, mul-div_cancel_left s {n = t} p) in
@@ -98,39 +98,39 @@ none_odd [] a = refl
 none_odd (x ∷ xs) (s, a) = omega (arith, parts_all (total (sizes (x ∷ xs))) (sizes (x ∷ xs)) (omega (arith, s.0)))
 
 -- to share is to deal what can be had
-shared_dealt : (k : ℕ) (xs : List Response) → AllByRecursion Sized xs → shared k (sizes xs) ≡ dealt (min k (total (sizes xs))) (total (sizes xs)) (min k (total (sizes xs)) - parts_total (min k (total (sizes xs))) (total (sizes xs)) (sizes xs)) (sizes xs)
+shared_dealt : (k : ℕ) (xs : List Response) → AllByRecursion Sized xs → shares k (sizes xs) ≡ deal (min k (total (sizes xs))) (total (sizes xs)) (min k (total (sizes xs)) - parts_total (min k (total (sizes xs))) (total (sizes xs)) (sizes xs)) (sizes xs)
 shared_dealt k xs a =
     let ss : List ℕ = sizes xs in
     let t : ℕ = total ss in
-    cond_both (leb t k) ss (dealt k t (k - parts_total k t ss) ss) (λ fs. fs ≡ dealt (min k t) t (min k t - parts_total (min k t) t ss) ss)
+    cond_both (leb t k) ss (deal k t (k - parts_total k t ss) ss) (λ fs. fs ≡ deal (min k t) t (min k t - parts_total (min k t) t ss) ss)
     (λ e. let le = leb-true t k e in let all : min k t ≡ t = omega arith in rw all (full xs a))
     (λ e. let lt = leb-false t k e in let all : min k t ≡ k = omega arith in rw all refl)
   where
-    full : (ys : List Response) → AllByRecursion Sized ys → sizes ys ≡ dealt (total (sizes ys)) (total (sizes ys)) (total (sizes ys) - parts_total (total (sizes ys)) (total (sizes ys)) (sizes ys)) (sizes ys)
+    full : (ys : List Response) → AllByRecursion Sized ys → sizes ys ≡ deal (total (sizes ys)) (total (sizes ys)) (total (sizes ys) - parts_total (total (sizes ys)) (total (sizes ys)) (sizes ys)) (sizes ys)
     full [] h = refl
     full (y ∷ ys) (s, h) =
         let ss : List ℕ = sizes (y ∷ ys) in
-        sym (dealt_all (total ss) ss (omega (arith, s.0))) ∙ ap (λ odd. dealt (total ss) (total ss) odd ss) (sym (none_odd (y ∷ ys) (s, h)))
+        sym (dealt_all (total ss) ss (omega (arith, s.0))) ∙ ap (λ odd. deal (total ss) (total ss) odd ss) (sym (none_odd (y ∷ ys) (s, h)))
 
-pub shared_min : (k : ℕ) (xs : List Response) → AllByRecursion Sized xs → shared (min k (total (sizes xs))) (sizes xs) ≡ shared k (sizes xs)
+pub shared_min : (k : ℕ) (xs : List Response) → AllByRecursion Sized xs → shares (min k (total (sizes xs))) (sizes xs) ≡ shares k (sizes xs)
 shared_min k xs a =
     let ss : List ℕ = sizes xs in
     let t : ℕ = total ss in
     let same : min (min k t) t ≡ min k t = omega arith in
-    shared_dealt (min k t) xs a ∙ ap (λ n. dealt n t (n - parts_total n t ss) ss) same ∙ sym (shared_dealt k xs a)
+    shared_dealt (min k t) xs a ∙ ap (λ n. deal n t (n - parts_total n t ss) ss) same ∙ sym (shared_dealt k xs a)
 
-pub dealt_within : (k : ℕ) (xs : List Response) → AllByRecursion Sized xs → k ≤ total (sizes xs) → dealt k (total (sizes xs)) (k - parts_total k (total (sizes xs)) (sizes xs)) (sizes xs) ≡ shared k (sizes xs)
+pub dealt_within : (k : ℕ) (xs : List Response) → AllByRecursion Sized xs → k ≤ total (sizes xs) → deal k (total (sizes xs)) (k - parts_total k (total (sizes xs)) (sizes xs)) (sizes xs) ≡ shares k (sizes xs)
 dealt_within k xs a h =
     let ss : List ℕ = sizes xs in
     let t : ℕ = total ss in
     let same : k ≡ min k t = omega arith in
-    ap (λ n. dealt n t (n - parts_total n t ss) ss) same ∙ sym (shared_dealt k xs a)
+    ap (λ n. deal n t (n - parts_total n t ss) ss) same ∙ sym (shared_dealt k xs a)
 
-pub none_over_dealt : (k t odd : ℕ) (ss : List ℕ) → k < t → AllByRecursion (λ s. 0 < s) ss → AllZip (λ s f. f ≤ s) ss (dealt k t odd ss)
+pub none_over_dealt : (k t odd : ℕ) (ss : List ℕ) → k < t → AllByRecursion (λ s. 0 < s) ss → AllZip (λ s f. f ≤ s) ss (deal k t odd ss)
 none_over_dealt k t odd [] h a = tt
 none_over_dealt k t odd (s ∷ ss) h (p, a) = (omega (arith, part_below k t s h p), none_over_dealt k t (odd - 1) ss h a)
 
-pub near_dealt : (k t odd : ℕ) (ss : List ℕ) → AllZip (λ s f. (f ≡ k * s / t) ⊎ (f ≡ k * s / t + 1)) ss (dealt k t odd ss)
+pub near_dealt : (k t odd : ℕ) (ss : List ℕ) → AllZip (λ s f. (f ≡ k * s / t) ⊎ (f ≡ k * s / t + 1)) ss (deal k t odd ss)
 near_dealt k t odd [] = tt
 near_dealt k t odd (s ∷ ss) =
     (elim (cases_lt 0 odd) [ inl h ↦ inr (omega arith) | inr h ↦ inl (omega arith) ], near_dealt k t (odd - 1) ss)
@@ -156,7 +156,7 @@ fair_full k ss a h =
       full = λ _. refl;
     }
 
-fair_dealt : (k : ℕ) (ss : List ℕ) → AllByRecursion (λ s. 0 < s) ss → k < total ss → Fair k ss (dealt k (total ss) (k - parts_total k (total ss) ss) ss)
+fair_dealt : (k : ℕ) (ss : List ℕ) → AllByRecursion (λ s. 0 < s) ss → k < total ss → Fair k ss (deal k (total ss) (k - parts_total k (total ss) ss) ss)
 fair_dealt k ss a h =
     let t : ℕ = total ss in
     let odd : ℕ = k - parts_total k t ss in
@@ -166,12 +166,12 @@ fair_dealt k ss a h =
       as_many = length_dealt k t odd ss;
       in_all = omega (arith, total_dealt k t odd ss (omega arith));
       none_over = none_over_dealt k t odd ss h a;
-      near = subst (λ m. AllZip (λ s f. (f ≡ m * s / t) ⊎ (f ≡ m * s / t + 1)) ss (dealt k t odd ss)) part (near_dealt k t odd ss);
+      near = subst (λ m. AllZip (λ s f. (f ≡ m * s / t) ⊎ (f ≡ m * s / t + 1)) ss (deal k t odd ss)) part (near_dealt k t odd ss);
       full = λ le. absurd (omega arith);
     }
 
-pub fair_shared : (k : ℕ) (ss : List ℕ) → AllByRecursion (λ s. 0 < s) ss → Fair k ss (shared k ss)
+pub fair_shared : (k : ℕ) (ss : List ℕ) → AllByRecursion (λ s. 0 < s) ss → Fair k ss (shares k ss)
 fair_shared k ss a =
-    cond_both (leb (total ss) k) ss (dealt k (total ss) (k - parts_total k (total ss) ss) ss) (Fair k ss)
+    cond_both (leb (total ss) k) ss (deal k (total ss) (k - parts_total k (total ss) ss) ss) (Fair k ss)
     (λ e. fair_full k ss a (leb-true (total ss) k e))
     (λ e. fair_dealt k ss a (leb-false (total ss) k e))

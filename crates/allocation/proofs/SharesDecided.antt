@@ -8,7 +8,7 @@ use Rattle.allocation.specs.declared.order.GuaranteeKind.{GuaranteeKind}
 use Rattle.allocation.specs.declared.order.GuaranteeKind.TheVariants.{SingleStop, AutoMatchLimit}
 use Rattle.allocation.specs.ContraLaws.{GuaranteeAllows}
 use Rattle.allocation.specs.Levels.{contra_level}
-use Rattle.allocation.specs.Split.{Rest, others_share, matched, clean_up, nothing_trades, stop_rest, match_between, match_rest, rest_by, split}
+use Rattle.allocation.specs.Split.{Rest, others_share, whole_match, clean_up, nothing_trades, stop_rest, match_between, match_rest, rest_by, split}
 
 -- Of r contracts customers, contra and others get k, x and o at a price, and y is what trades beyond it. The contra has m
 -- from better prices; customers and others ask for c and n.
@@ -57,14 +57,14 @@ cleaned r k x o y c n g all km om first none most least = elim (cases_lt k c) [
 module _ (t : ContraTerms) (z : ℤ) (r m c n k x o y : ℕ) where
   stop_decided : Facts SingleStop t z r m c n k x o y → z ≤ℤ t.guarantee.price → Same x o (stop_rest t z (r - min r c) n)
   stop_decided h under =
-      let own : ℤ = t.guarantee.price in
+      let contra_price : ℤ = t.guarantee.price in
       let q : ℕ = r - min r c in
-      cond_both (lt_z z own) (others_share q n) (cond (lt_z own z) nothing_trades (clean_up q t.guaranteed n)) (Same x o)
+      cond_both (lt_z z contra_price) (others_share q n) (cond (lt_z contra_price z) nothing_trades (clean_up q t.guaranteed n)) (Same x o)
       (λ e. shared r k x o y c n h.in_all h.customers_most h.others_most h.lack h.customers_lack
-      (elim (cases_lt 0 x) [ inl some ↦ absurd (let a : z ≡ own = h.allowed some in grind (arith, ints)) | inr idle ↦ omega arith ]))
-      (λ e. cond_both (lt_z own z) nothing_trades (clean_up q t.guaranteed n) (Same x o)
+      (elim (cases_lt 0 x) [ inl some ↦ absurd (let a : z ≡ contra_price = h.allowed some in grind (arith, ints)) | inr idle ↦ omega arith ]))
+      (λ e. cond_both (lt_z contra_price z) nothing_trades (clean_up q t.guaranteed n) (Same x o)
       (λ f. absurd (grind (arith, ints)))
-      (λ f. let le : own ≤ℤ z = grind (arith, ints) in
+      (λ f. let le : contra_price ≤ℤ z = grind (arith, ints) in
       cleaned r k x o y c n t.guaranteed h.in_all h.customers_most h.others_most h.customers_lack (h.none_beyond le)
       (λ some less. omega (arith, h.wanted some less))
       (λ trades. let none = h.none_before_stop refl under in elim (h.before trades le) [ inl has ↦ omega arith | inr all ↦ absurd (differ all.0) ])))
@@ -73,7 +73,7 @@ module _ (t : ContraTerms) (z : ℤ) (r m c n k x o y : ℕ) where
       differ e = let w : ◌≡◌ {A = ℕ} 0 1 = cc in omega arith
 
   -- enough is left for a match
-  match_decided : Facts AutoMatchLimit t z r m c n k x o y → t.guarantee.price ≤ℤ z → z <ℤ t.initiating → m < t.guaranteed → n + (c + n) ≤ r - min r c → Same x o (matched (c + n) n)
+  match_decided : Facts AutoMatchLimit t z r m c n k x o y → t.guarantee.price ≤ℤ z → z <ℤ t.initiating → m < t.guaranteed → n + (c + n) ≤ r - min r c → Same x o (whole_match (c + n) n)
   match_decided h from less lacks enough = elim (cases_lt k c) [
     | inl few ↦ absurd (let e = h.lack (inl few) in let w = h.customers_lack few in omega (arith, h.in_all, w.0, w.1))
     | inr full ↦ elim (cases_lt o n) [
@@ -132,12 +132,12 @@ module _ (t : ContraTerms) (z : ℤ) (r m c n k x o y : ℕ) where
   between_decided h from less =
       let q : ℕ = r - min r c in
       let both : ℕ = n + (c + n) in
-      cond_both (leb t.guaranteed m) (others_share q n) (cond (leb both q) (matched (c + n) n) (clean_up q (t.guaranteed - m) n)) (Same x o)
+      cond_both (leb t.guaranteed m) (others_share q n) (cond (leb both q) (whole_match (c + n) n) (clean_up q (t.guaranteed - m) n)) (Same x o)
       (λ e. let has : t.guaranteed ≤ m = leb-true t.guaranteed m e in
       shared r k x o y c n h.in_all h.customers_most h.others_most h.lack h.customers_lack
       (elim (cases_lt 0 x) [ inl some ↦ absurd (omega (arith, h.while_lacking refl some less)) | inr idle ↦ omega arith ]))
       (λ e. let lacks : m < t.guaranteed = leb-false t.guaranteed m e in
-      cond_both (leb both q) (matched (c + n) n) (clean_up q (t.guaranteed - m) n) (Same x o)
+      cond_both (leb both q) (whole_match (c + n) n) (clean_up q (t.guaranteed - m) n) (Same x o)
       (λ f. match_decided h from less lacks (leb-true both q f))
       (λ f. short_decided h from less lacks (leb-false both q f)))
 

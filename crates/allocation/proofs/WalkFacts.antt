@@ -17,27 +17,27 @@ use Rattle.allocation.specs.declared.response.Class.TheVariants.{Customer, Other
 use Rattle.allocation.specs.declared.response.Response.{Response}
 use Rattle.allocation.specs.FillLaws.{same_price, same_class}
 use Rattle.allocation.specs.Fill.{fills, level_rows, split_at}
-use Rattle.allocation.specs.Levels.{Level, place, levels, flat}
+use Rattle.allocation.specs.Levels.{Level, levels_with, levels, flat}
 use Rattle.allocation.specs.LevelSteps.{stands_at, leading, next_price, counted_level, front_level}
-use Rattle.allocation.specs.Split.{taken}
-use Rattle.allocation.specs.Walk.{still_to_come, behind_level, walked}
+use Rattle.allocation.specs.Split.{total_taken}
+use Rattle.allocation.specs.Walk.{still_to_come, behind_level, walk_rows}
 use Rattle.allocation.proofs.LevelFacts.{above_flat, holds_levels, ascending_levels, filled_or_contra, among_levels}
 use Rattle.allocation.proofs.LevelShape.{At, Holds, Ascending, Among}
 
 -- What is still to come of the contra's own price: it is among the levels, and below them once it is gone.
 abbrev pub Due : ℤ → Option ℤ → List Level → Type 0
 Due contra None ls = AllByRecursion (λ (l : Level). contra <ℤ l.price) ls
-Due contra (Some own) ls = (own ≡ contra) × Among contra ls
+Due contra (Some coming) ls = (coming ≡ contra) × Among contra ls
 
 -- Levels that are still to be walked.
-pub record Walkable (contra : ℤ) (own : Option ℤ) (ls : List Level) : Type 0 where
+pub record Walkable (contra : ℤ) (coming : Option ℤ) (ls : List Level) : Type 0 where
   pub holds : AllByRecursion Holds ls
   pub ascending : Ascending ls
   pub none_empty : AllByRecursion (λ (l : Level). (l.price ≡ contra) ⊎ (0 < length (l.customers ++ l.others))) ls
-  pub due : Due contra own ls
+  pub due : Due contra coming ls
 
-ends_there : (contra : ℤ) (own : Option ℤ) → Walkable contra own [] → next_price own (flat []) ≡ None
-ends_there contra (Some own) w = absurd w.due.1
+ends_there : (contra : ℤ) (coming : Option ℤ) → Walkable contra coming [] → next_price coming (flat []) ≡ None
+ends_there contra (Some coming) w = absurd w.due.1
 ends_there contra None w = refl
 
 same_from_equal : (a b : ℤ) → a ≡ b → same_price a b ≡ true
@@ -51,11 +51,11 @@ equal_from_same a b e =
     grind (arith, ints)
 
 -- the first level is not above the contra's own, where that is among them
-lowest_first : (own : ℤ) (l : Level) (ls : List Level) → Ascending (l ∷ ls) → Among own (l ∷ ls) → l.price ≤ℤ own
-lowest_first own l ls up (inl here) = grind (arith, ints)
-lowest_first own l ls up (inr later) = above ls up.0 later
+lowest_first : (coming : ℤ) (l : Level) (ls : List Level) → Ascending (l ∷ ls) → Among coming (l ∷ ls) → l.price ≤ℤ coming
+lowest_first coming l ls up (inl here) = grind (arith, ints)
+lowest_first coming l ls up (inr later) = above ls up.0 later
   where
-    above : (ks : List Level) → AllByRecursion (λ (k : Level). l.price <ℤ k.price) ks → Among own ks → l.price ≤ℤ own
+    above : (ks : List Level) → AllByRecursion (λ (k : Level). l.price <ℤ k.price) ks → Among coming ks → l.price ≤ℤ coming
     above [] a m = absurd m
     above (k ∷ ks) (a, rest) (inl here) = grind (arith, ints)
     above (k ∷ ks) (a, rest) (inr later) = above ks rest later
@@ -63,40 +63,40 @@ lowest_first own l ls up (inr later) = above ls up.0 later
 -- The contra's own price is not below this one while it is still to come, and below it once it is gone.
 abbrev Near : ℤ → Option ℤ → ℤ → Type 0
 Near contra None price = contra <ℤ price
-Near contra (Some own) price = (own ≡ contra) × (price ≤ℤ contra)
+Near contra (Some coming) price = (coming ≡ contra) × (price ≤ℤ contra)
 
-near_first : (contra : ℤ) (own : Option ℤ) (l : Level) (ls : List Level) → Walkable contra own (l ∷ ls) → Near contra own l.price
+near_first : (contra : ℤ) (coming : Option ℤ) (l : Level) (ls : List Level) → Walkable contra coming (l ∷ ls) → Near contra coming l.price
 near_first contra None l ls w = w.due.0
-near_first contra (Some own) l ls w = (w.due.0, lowest_first contra l ls w.ascending w.due.1)
+near_first contra (Some coming) l ls w = (w.due.0, lowest_first contra l ls w.ascending w.due.1)
 
 -- a response at the lowest price is the next
-next_here : (contra price : ℤ) (own : Option ℤ) (x : Response) (xs : List Response) → x.price ≡ price → Near contra own price → next_price own (x ∷ xs) ≡ Some price
-next_here contra price (Some own) x xs e near = ap Some (cond_both (lt_z own x.price) own x.price (λ z. z ≡ price) (λ t. grind (arith, ints)) (λ _. e))
+next_here : (contra price : ℤ) (coming : Option ℤ) (x : Response) (xs : List Response) → x.price ≡ price → Near contra coming price → next_price coming (x ∷ xs) ≡ Some price
+next_here contra price (Some coming) x xs e near = ap Some (cond_both (lt_z coming x.price) coming x.price (λ z. z ≡ price) (λ t. grind (arith, ints)) (λ _. e))
 next_here contra price None x xs e near = ap Some e
 
 -- the contra's own price is the next before all that stand above it
-next_own : (own : ℤ) (xs : List Response) → AllByRecursion (λ (x : Response). own <ℤ x.price) xs → next_price (Some own) xs ≡ Some own
-next_own own [] up = refl
-next_own own (x ∷ xs) (up, _) = ap Some (cond_both (lt_z own x.price) own x.price (λ z. z ≡ own) (λ _. refl) (λ f. grind (arith, ints)))
+next_own : (coming : ℤ) (xs : List Response) → AllByRecursion (λ (x : Response). coming <ℤ x.price) xs → next_price (Some coming) xs ≡ Some coming
+next_own coming [] up = refl
+next_own coming (x ∷ xs) (up, _) = ap Some (cond_both (lt_z coming x.price) coming x.price (λ z. z ≡ coming) (λ _. refl) (λ f. grind (arith, ints)))
 
-next_first : (contra price : ℤ) (own : Option ℤ) (cs os rest : List Response)
+next_first : (contra price : ℤ) (coming : Option ℤ) (cs os rest : List Response)
     → AllByRecursion (At price Customer) cs → AllByRecursion (At price Other) os → AllByRecursion (λ (x : Response). price <ℤ x.price) rest
-    → Near contra own price → (price ≡ contra) ⊎ (0 < length (cs ++ os))
-    → next_price own (cs ++ (os ++ rest)) ≡ Some price
-next_first contra price own (x ∷ cs) os rest ((e, _), _) b up near some = next_here contra price own x (cs ++ (os ++ rest)) e near
-next_first contra price own [] (x ∷ os) rest a ((e, _), _) up near some = next_here contra price own x (os ++ rest) e near
-next_first contra price (Some own) [] [] rest a b up near (inl e) =
-    let here : price ≡ own = e ∙ sym near.0 in
-    next_own own rest (subst (λ p. AllByRecursion (λ (x : Response). p <ℤ x.price) rest) here up) ∙ ap Some (sym here)
+    → Near contra coming price → (price ≡ contra) ⊎ (0 < length (cs ++ os))
+    → next_price coming (cs ++ (os ++ rest)) ≡ Some price
+next_first contra price coming (x ∷ cs) os rest ((e, _), _) b up near some = next_here contra price coming x (cs ++ (os ++ rest)) e near
+next_first contra price coming [] (x ∷ os) rest a ((e, _), _) up near some = next_here contra price coming x (os ++ rest) e near
+next_first contra price (Some coming) [] [] rest a b up near (inl e) =
+    let here : price ≡ coming = e ∙ sym near.0 in
+    next_own coming rest (subst (λ p. AllByRecursion (λ (x : Response). p <ℤ x.price) rest) here up) ∙ ap Some (sym here)
 next_first contra price None [] [] rest a b up near (inl e) = absurd (grind (arith, ints))
-next_first contra price own [] [] rest a b up near (inr some) = absurd (omega arith)
+next_first contra price coming [] [] rest a b up near (inr some) = absurd (omega arith)
 
 -- the lowest price still to come is the first level's
-pub first_price : (contra : ℤ) (own : Option ℤ) (l : Level) (ls : List Level) → Walkable contra own (l ∷ ls) → next_price own (flat (l ∷ ls)) ≡ Some l.price
-first_price contra own l ls w =
-    next_first contra l.price own l.customers l.others (flat ls)
+pub first_price : (contra : ℤ) (coming : Option ℤ) (l : Level) (ls : List Level) → Walkable contra coming (l ∷ ls) → next_price coming (flat (l ∷ ls)) ≡ Some l.price
+first_price contra coming l ls w =
+    next_first contra l.price coming l.customers l.others (flat ls)
     w.holds.0.customers_here w.holds.0.others_here (above_flat l.price ls w.ascending.0 w.holds.1)
-    (near_first contra own l ls w) w.none_empty.0
+    (near_first contra coming l ls w) w.none_empty.0
 
 -- behind a level stand the levels that follow it
 pub behind : (l : Level) (ls : List Level) → behind_level l (flat (l ∷ ls)) ≡ flat ls
@@ -105,20 +105,20 @@ behind l ls =
     ∙ ap (drop (length l.others)) (drop_at l.customers (l.others ++ flat ls) (length l.customers) refl)
     ∙ drop_at l.others (flat ls) (length l.others) refl
 
-pub walkable_rest : (contra : ℤ) (own : Option ℤ) (l : Level) (ls : List Level) → Walkable contra own (l ∷ ls) → Walkable contra (still_to_come own l.price) ls
-walkable_rest contra own l ls w = record {
+pub walkable_rest : (contra : ℤ) (coming : Option ℤ) (l : Level) (ls : List Level) → Walkable contra coming (l ∷ ls) → Walkable contra (still_to_come coming l.price) ls
+walkable_rest contra coming l ls w = record {
   holds = w.holds.1;
   ascending = w.ascending.1;
   none_empty = w.none_empty.1;
-  due = due_rest own w.due;
+  due = due_rest coming w.due;
 }
   where
-    due_rest : (own : Option ℤ) → Due contra own (l ∷ ls) → Due contra (still_to_come own l.price) ls
+    due_rest : (coming : Option ℤ) → Due contra coming (l ∷ ls) → Due contra (still_to_come coming l.price) ls
     due_rest None d = d.1
-    due_rest (Some own) (e, among) =
-        cond_both (same_price l.price own) None (Some own) (λ o. Due contra o ls)
-        (λ same. subst (λ p. AllByRecursion (λ (k : Level). p <ℤ k.price) ls) (equal_from_same l.price own same ∙ e) w.ascending.0)
-        (λ apart. (e, elim among [ inl here ↦ absurd (both_ways (same_price l.price own) apart (same_from_equal l.price own (here ∙ sym e))) | inr later ↦ later ]))
+    due_rest (Some coming) (e, among) =
+        cond_both (same_price l.price coming) None (Some coming) (λ o. Due contra o ls)
+        (λ same. subst (λ p. AllByRecursion (λ (k : Level). p <ℤ k.price) ls) (equal_from_same l.price coming same ∙ e) w.ascending.0)
+        (λ apart. (e, elim among [ inl here ↦ absurd (both_ways (same_price l.price coming) apart (same_from_equal l.price coming (here ∙ sym e))) | inr later ↦ later ]))
 
 stands_there : (price : ℤ) (c : Class) (x : Response) → At price c x → stands_at price c x ≡ true
 stands_there price c x (e, is) = and_from (same_class c x.class) (same_price price x.price) (subst (λ d. same_class c d ≡ true) (sym is) (same_class_self c)) (same_from_equal price x.price (sym e))
@@ -181,30 +181,30 @@ first_level l ls (h, hs) (up, _) =
 
 -- one turn at a level, with so many turns behind it
 abbrev turn : Side → ContraTerms → Option ℤ → List Response → ℕ → ℕ → ℕ → Level → List FillRow
-turn side t own xs turns r m k = level_rows side k (split_at t k r m) ++ walked turns side t (still_to_come own k.price) (behind_level k xs) (r - taken (split_at t k r m)) (m + (split_at t k r m).contra)
+turn side t coming xs turns r m k = level_rows side k (split_at t k r m) ++ walk_rows turns side t (still_to_come coming k.price) (behind_level k xs) (r - total_taken (split_at t k r m)) (m + (split_at t k r m).contra)
 
 -- with a turn for each level, what is walked is the fill list
-pub walked_is_fills : (turns : ℕ) (side : Side) (t : ContraTerms) (contra : ℤ) (own : Option ℤ) (ls : List Level) (r m : ℕ) → length ls ≤ turns → Walkable contra own ls → walked turns side t own (flat ls) r m ≡ fills side t ls r m
-walked_is_fills zero side t contra own [] r m few w = refl
-walked_is_fills zero side t contra own (l ∷ ls) r m few w = absurd (omega arith)
-walked_is_fills (suc turns) side t contra own [] r m few w = ap (λ o. unwrap_or (option_map (λ price. turn side t own [] turns r m (front_level price [])) o) []) (ends_there contra own w)
-walked_is_fills (suc turns) side t contra own (l ∷ ls) r m few w =
-    ap (λ o. unwrap_or (option_map (λ price. turn side t own (flat (l ∷ ls)) turns r m (front_level price (flat (l ∷ ls)))) o) []) (first_price contra own l ls w)
-    ∙ ap (turn side t own (flat (l ∷ ls)) turns r m) (first_level l ls w.holds w.ascending)
-    ∙ ap (λ xs. level_rows side l (split_at t l r m) ++ walked turns side t (still_to_come own l.price) xs (r - taken (split_at t l r m)) (m + (split_at t l r m).contra)) (behind l ls)
+pub walked_is_fills : (turns : ℕ) (side : Side) (t : ContraTerms) (contra : ℤ) (coming : Option ℤ) (ls : List Level) (r m : ℕ) → length ls ≤ turns → Walkable contra coming ls → walk_rows turns side t coming (flat ls) r m ≡ fills side t ls r m
+walked_is_fills zero side t contra coming [] r m few w = refl
+walked_is_fills zero side t contra coming (l ∷ ls) r m few w = absurd (omega arith)
+walked_is_fills (suc turns) side t contra coming [] r m few w = ap (λ o. unwrap_or (option_map (λ price. turn side t coming [] turns r m (front_level price [])) o) []) (ends_there contra coming w)
+walked_is_fills (suc turns) side t contra coming (l ∷ ls) r m few w =
+    ap (λ o. unwrap_or (option_map (λ price. turn side t coming (flat (l ∷ ls)) turns r m (front_level price (flat (l ∷ ls)))) o) []) (first_price contra coming l ls w)
+    ∙ ap (turn side t coming (flat (l ∷ ls)) turns r m) (first_level l ls w.holds w.ascending)
+    ∙ ap (λ xs. level_rows side l (split_at t l r m) ++ walk_rows turns side t (still_to_come coming l.price) xs (r - total_taken (split_at t l r m)) (m + (split_at t l r m).contra)) (behind l ls)
     ∙ ap (λ fs. level_rows side l (split_at t l r m) ++ fs)
-    (walked_is_fills turns side t contra (still_to_come own l.price) ls (r - taken (split_at t l r m)) (m + (split_at t l r m).contra) (omega arith) (walkable_rest contra own l ls w))
+    (walked_is_fills turns side t contra (still_to_come coming l.price) ls (r - total_taken (split_at t l r m)) (m + (split_at t l r m).contra) (omega arith) (walkable_rest contra coming l ls w))
 
-module _ (ahead : Response → Response → Bool) (own : ℤ) where
-  pub walkable_levels : (xs : List Response) → Walkable own (Some own) (levels ahead own xs)
+module _ (ahead : Response → Response → Bool) (coming : ℤ) where
+  pub walkable_levels : (xs : List Response) → Walkable coming (Some coming) (levels ahead coming xs)
   walkable_levels xs = record {
-    holds = holds_levels ahead own xs;
-    ascending = ascending_levels ahead own xs;
-    none_empty = filled_or_contra ahead own xs;
-    due = (refl, among_levels ahead own xs);
+    holds = holds_levels ahead coming xs;
+    ascending = ascending_levels ahead coming xs;
+    none_empty = filled_or_contra ahead coming xs;
+    due = (refl, among_levels ahead coming xs);
   }
 
-  few_placed : (x : Response) (ls : List Level) → length (place ahead x ls) ≤ length ls + 1
+  few_placed : (x : Response) (ls : List Level) → length (levels_with ahead x ls) ≤ length ls + 1
   few_placed x [] = omega arith
   few_placed x (l ∷ ls) =
       let ih = few_placed x ls in
@@ -213,6 +213,6 @@ module _ (ahead : Response → Response → Bool) (own : ℤ) where
       (λ _. cond_both (lt_z l.price x.price) _ _ (λ ks. length ks ≤ length (l ∷ ls) + 1) (λ _. omega arith) (λ _. omega arith))
 
   -- at most one level for each response, and the contra's own
-  pub few_levels : (xs : List Response) → length (levels ahead own xs) ≤ length xs + 1
+  pub few_levels : (xs : List Response) → length (levels ahead coming xs) ≤ length xs + 1
   few_levels [] = omega arith
-  few_levels (x ∷ xs) = omega (arith, few_placed x (levels ahead own xs), few_levels xs)
+  few_levels (x ∷ xs) = omega (arith, few_placed x (levels ahead coming xs), few_levels xs)

@@ -18,20 +18,20 @@ use Rattle.allocation.specs.FillLaws.{same_price, same_class}
 use Rattle.allocation.specs.Fill.{split_at, class_rows, shared_rows, contra_row, contra_rows, level_rows}
 use Rattle.allocation.specs.Levels.{Level}
 use Rattle.allocation.specs.LevelSteps.{stands_at, leading, next_price, front_level}
-use Rattle.allocation.specs.Share.{sizes, total, shared, dealt, parts_total}
-use Rattle.allocation.specs.Split.{taken}
+use Rattle.allocation.specs.Share.{sizes, total, shares, deal, parts_total}
+use Rattle.allocation.specs.Split.{total_taken}
 use Rattle.allocation.proofs.ShareFacts.{length_dealt}
 use Rattle.allocation.proofs.Writes.{mid_take, mid_drop}
-use Rattle.allocation.specs.Walk.{behind_level, still_to_come, walked, walk_level, walk_split, walk_on}
+use Rattle.allocation.specs.Walk.{behind_level, still_to_come, walk_rows, walk_level, walk_split, walk_on, walk_past, rows_past}
 
 -- the contra's own price can be turned while it is still to come
-still_showable : (own : Option ℤ) (price : ℤ) → showable own ≡ true → showable (still_to_come own price) ≡ true
+still_showable : (coming : Option ℤ) (price : ℤ) → showable coming ≡ true → showable (still_to_come coming price) ≡ true
 still_showable None price h = refl
-still_showable (Some own) price h = cond_both (same_price price own) None (Some own) (λ o. showable o ≡ true) (λ _. refl) (λ _. h)
+still_showable (Some coming) price h = cond_both (same_price price coming) None (Some coming) (λ o. showable o ≡ true) (λ _. refl) (λ _. h)
 
 -- how much there is to walk
 abbrev pub to_go : Walk → List Response → ℕ
-to_go w xs = (length xs - w.next) + cond (is_some w.own) 1 0
+to_go w xs = (length xs - w.next) + cond (is_some w.contra_price) 1 0
 
 -- a walk underway: some turns are enough for the rest, it has room, and what is written with what is to come is all
 pub record Underway (side : Side) (t : ContraTerms) (xs : List Response) (old all : List FillRow) (w : Walk) (rows : List FillRow) : Type 0 where
@@ -39,10 +39,10 @@ pub record Underway (side : Side) (t : ContraTerms) (xs : List Response) (old al
   pub enough : to_go w xs ≤ turns
   pub inside : w.next ≤ length xs
   pub few : w.progress.left + w.progress.so_far ≤ 100000
-  pub room : w.at + (2 * (length xs - w.next) + cond (is_some w.own) 1 0) ≤ 2 * length xs + 1
-  pub shown : showable w.own ≡ true
-  pub so_written : take w.at rows ++ walked turns side t w.own (drop w.next xs) w.progress.left w.progress.so_far ≡ all
-  pub untouched : drop w.at rows ≡ drop w.at old
+  pub room : w.row + (2 * (length xs - w.next) + cond (is_some w.contra_price) 1 0) ≤ 2 * length xs + 1
+  pub shown : showable w.contra_price ≡ true
+  pub so_written : take w.row rows ++ walk_rows turns side t w.contra_price (drop w.next xs) w.progress.left w.progress.so_far ≡ all
+  pub untouched : drop w.row rows ≡ drop w.row old
 
 -- a response stands at the front of its own price
 leads : (c : Class) (x : Response) (xs : List Response) → same_class c x.class ≡ true → 0 < leading x.price c (x ∷ xs)
@@ -71,11 +71,11 @@ some_stand : (x : Response) (xs : List Response) → 0 < length (front_level x.p
 some_stand x xs = some_stand_as x.class x xs refl
 
 -- each level takes some response, or is the contra's own, which was to come
-pub moves_on : (own : Option ℤ) (xs : List Response) (price : ℤ) → next_price own xs ≡ Some price
-    → (0 < length (front_level price xs).customers + length (front_level price xs).others) ⊎ ((own ≡ Some price) × (still_to_come own price ≡ None))
-moves_on (Some own) [] price h =
-    let here : own ≡ price = cc in
-    inr (h, ap (still_to_come (Some own)) (sym here) ∙ gone own)
+pub moves_on : (coming : Option ℤ) (xs : List Response) (price : ℤ) → next_price coming xs ≡ Some price
+    → (0 < length (front_level price xs).customers + length (front_level price xs).others) ⊎ ((coming ≡ Some price) × (still_to_come coming price ≡ None))
+moves_on (Some coming) [] price h =
+    let here : coming ≡ price = cc in
+    inr (h, ap (still_to_come (Some coming)) (sym here) ∙ gone coming)
   where
     gone : (z : ℤ) → still_to_come (Some z) z ≡ None
     gone z = rw (same_price_self z) refl
@@ -86,27 +86,27 @@ moves_on None [] price h = absurd (none_is_some h)
 moves_on None (x ∷ xs) price h =
     let first : x.price ≡ price = cc in
     inl (subst (λ z. 0 < length (front_level z (x ∷ xs)).customers + length (front_level z (x ∷ xs)).others) first (some_stand x xs))
-moves_on (Some own) (x ∷ xs) price h = go (lt_z own x.price) refl
+moves_on (Some coming) (x ∷ xs) price h = go (lt_z coming x.price) refl
   where
     gone : (z : ℤ) → still_to_come (Some z) z ≡ None
     gone z = rw (same_price_self z) refl
 
-    go : (b : Bool) → lt_z own x.price ≡ b → (0 < length (front_level price (x ∷ xs)).customers + length (front_level price (x ∷ xs)).others) ⊎ ((Some own ≡ Some price) × (still_to_come (Some own) price ≡ None))
+    go : (b : Bool) → lt_z coming x.price ≡ b → (0 < length (front_level price (x ∷ xs)).customers + length (front_level price (x ∷ xs)).others) ⊎ ((Some coming ≡ Some price) × (still_to_come (Some coming) price ≡ None))
     go true e =
-        let at_own : next_price (Some own) (x ∷ xs) ≡ Some own = rw e in
-        let here : own ≡ price = let both : Some own ≡ Some price = sym at_own ∙ h in cc in
-        inr (ap Some here, ap (still_to_come (Some own)) (sym here) ∙ gone own)
+        let at_own : next_price (Some coming) (x ∷ xs) ≡ Some coming = rw e in
+        let here : coming ≡ price = let both : Some coming ≡ Some price = sym at_own ∙ h in cc in
+        inr (ap Some here, ap (still_to_come (Some coming)) (sym here) ∙ gone coming)
     go false e =
-        let at_first : next_price (Some own) (x ∷ xs) ≡ Some x.price = rw e in
+        let at_first : next_price (Some coming) (x ∷ xs) ≡ Some x.price = rw e in
         let first : x.price ≡ price = let both : Some x.price ≡ Some price = sym at_first ∙ h in cc in
         inl (subst (λ z. 0 < length (front_level z (x ∷ xs)).customers + length (front_level z (x ∷ xs)).others) first (some_stand x xs))
 
 -- as many rows as a level has responses, and one for the contra if it gets any
 length_shared_rows : (side : Side) (k : ℕ) (xs : List Response) → length (shared_rows side k xs) ≡ length xs
-length_shared_rows side k xs = length_class_rows side xs (shared k (sizes xs)) (length_shared k (sizes xs) ∙ length-map xs (λ (x : Response). x.size))
+length_shared_rows side k xs = length_class_rows side xs (shares k (sizes xs)) (length_shared k (sizes xs) ∙ length-map xs (λ (x : Response). x.size))
   where
-    length_shared : (n : ℕ) (ss : List ℕ) → length (shared n ss) ≡ length ss
-    length_shared n ss = cond_both (leb (total ss) n) ss (dealt n (total ss) (n - parts_total n (total ss) ss) ss) (λ fs. length fs ≡ length ss) (λ _. refl) (λ _. length_dealt n (total ss) (n - parts_total n (total ss) ss) ss)
+    length_shared : (n : ℕ) (ss : List ℕ) → length (shares n ss) ≡ length ss
+    length_shared n ss = cond_both (leb (total ss) n) ss (deal n (total ss) (n - parts_total n (total ss) ss) ss) (λ fs. length fs ≡ length ss) (λ _. refl) (λ _. length_dealt n (total ss) (n - parts_total n (total ss) ss) ss)
 
     length_class_rows : (s : Side) (ys : List Response) (fs : List ℕ) → length fs ≡ length ys → length (class_rows s ys fs) ≡ length ys
     length_class_rows s [] fs h = refl
@@ -125,19 +125,19 @@ length_level_rows side l s =
     simp (length-append) (omega arith)
 
 -- one turn less is left behind a level
-walked_on : (f : ℕ) (side : Side) (t : ContraTerms) (own : Option ℤ) (xs : List Response) (price : ℤ) (r m : ℕ) → 0 < f → next_price own xs ≡ Some price
-    → walked f side t own xs r m ≡ level_rows side (front_level price xs) (split_at t (front_level price xs) r m) ++ walked (f - 1) side t (still_to_come own price) (behind_level (front_level price xs) xs) (r - taken (split_at t (front_level price xs) r m)) (m + (split_at t (front_level price xs) r m).contra)
-walked_on zero side t own xs price r m p h = absurd (omega arith)
-walked_on (suc f) side t own xs price r m p h =
+walked_on : (f : ℕ) (side : Side) (t : ContraTerms) (coming : Option ℤ) (xs : List Response) (price : ℤ) (r m : ℕ) → 0 < f → next_price coming xs ≡ Some price
+    → walk_rows f side t coming xs r m ≡ level_rows side (front_level price xs) (split_at t (front_level price xs) r m) ++ walk_rows (f - 1) side t (still_to_come coming price) (behind_level (front_level price xs) xs) (r - total_taken (split_at t (front_level price xs) r m)) (m + (split_at t (front_level price xs) r m).contra)
+walked_on zero side t coming xs price r m p h = absurd (omega arith)
+walked_on (suc f) side t coming xs price r m p h =
     let less : suc f - 1 ≡ f = omega arith in
     rw (h, less) refl
 
-own_falls : (own : Option ℤ) (price : ℤ) → cond (is_some (still_to_come own price)) 1 0 ≤ cond (is_some own) 1 0
+own_falls : (coming : Option ℤ) (price : ℤ) → cond (is_some (still_to_come coming price)) 1 0 ≤ cond (is_some coming) 1 0
 own_falls None price = omega arith
-own_falls (Some own) price = cond_both (same_price price own) None (Some own) (λ o. cond (is_some o) 1 0 ≤ 1) (λ _. omega arith) (λ _. omega arith)
+own_falls (Some coming) price = cond_both (same_price price coming) None (Some coming) (λ o. cond (is_some o) 1 0 ≤ 1) (λ _. omega arith) (λ _. omega arith)
 
-own_gone : (own : Option ℤ) (price : ℤ) → own ≡ Some price → still_to_come own price ≡ None → cond (is_some (still_to_come own price)) 1 0 < cond (is_some own) 1 0
-own_gone own price e k = rw k (subst (λ o. 0 < cond (is_some o) 1 0) (sym e) (omega arith))
+own_gone : (coming : Option ℤ) (price : ℤ) → coming ≡ Some price → still_to_come coming price ≡ None → cond (is_some (still_to_come coming price)) 1 0 < cond (is_some coming) 1 0
+own_gone coming price e k = rw k (subst (λ o. 0 < cond (is_some o) 1 0) (sym e) (omega arith))
 
 -- numbers of a step: n responses, of which k are taken from `next` on, and at most k + 1 rows are written
 nearer : (n next k a rows p q : ℕ) → q ≤ p → (0 < k) ⊎ (q < p) → next + k ≤ n → rows ≤ k + 1 → a + (2 * (n - next) + p) ≤ 2 * n + 1
@@ -146,69 +146,79 @@ nearer n next k a rows p q h (inl some) i r room = (omega arith, omega arith)
 nearer n next k a rows p q h (inr less) i r room = (omega arith, omega arith)
 
 -- the walk after one level has less to go, and room
-pub progress : (t : ContraTerms) (xs : List Response) (w v : Walk) (price : ℤ) → next_price w.own (drop w.next xs) ≡ Some price → v ≡ walk_on w (walk_level price w xs) (walk_split t price w xs) → v.next ≤ length xs
-    → w.at + (2 * (length xs - w.next) + cond (is_some w.own) 1 0) ≤ 2 * length xs + 1
-    → (to_go v xs < to_go w xs) × (v.at + (2 * (length xs - v.next) + cond (is_some v.own) 1 0) ≤ 2 * length xs + 1)
+pub progress : (t : ContraTerms) (xs : List Response) (w v : Walk) (price : ℤ) → next_price w.contra_price (drop w.next xs) ≡ Some price → v ≡ walk_on w (walk_level price w xs) (walk_split t price w xs) → v.next ≤ length xs
+    → w.row + (2 * (length xs - w.next) + cond (is_some w.contra_price) 1 0) ≤ 2 * length xs + 1
+    → (to_go v xs < to_go w xs) × (v.row + (2 * (length xs - v.next) + cond (is_some v.contra_price) 1 0) ≤ 2 * length xs + 1)
 progress t xs w v price next e inside room =
     let rest : List Response = drop w.next xs in
     let l : Level = walk_level price w xs in
     let k : ℕ = length l.customers + length l.others in
-    let p : ℕ = cond (is_some w.own) 1 0 in
-    let q : ℕ = cond (is_some (still_to_come w.own price)) 1 0 in
-    let moved : (0 < k) ⊎ (q < p) = ⊎_elim (λ h. inl h) (λ h. inr (own_gone w.own price h.0 h.1)) (moves_on w.own rest price next) in
+    let p : ℕ = cond (is_some w.contra_price) 1 0 in
+    let q : ℕ = cond (is_some (still_to_come w.contra_price price)) 1 0 in
+    let moved : (0 < k) ⊎ (q < p) = ⊎_elim (λ h. inl h) (λ h. inr (own_gone w.contra_price price h.0 h.1)) (moves_on w.contra_price rest price next) in
     let there : w.next + k ≤ length xs = subst (λ n. n ≤ length xs) (ap (λ (x : Walk). x.next) e) inside in
-    let near = nearer (length xs) w.next k w.at (length l.customers + (min (walk_split t price w xs).contra 1 + length l.others)) p q (own_falls w.own price) moved there (omega arith) room in
-    subst (λ (x : Walk). (to_go x xs < to_go w xs) × (x.at + (2 * (length xs - x.next) + cond (is_some x.own) 1 0) ≤ 2 * length xs + 1)) (sym e) near
+    let near = nearer (length xs) w.next k w.row (length l.customers + (min (walk_split t price w xs).contra 1 + length l.others)) p q (own_falls w.contra_price price) moved there (omega arith) room in
+    subst (λ (x : Walk). (to_go x xs < to_go w xs) × (x.row + (2 * (length xs - x.next) + cond (is_some x.contra_price) 1 0) ≤ 2 * length xs + 1)) (sym e) near
+
+-- a walk that has passed the level of a price: where it is, and the rows that are then written
+pub record Passed (side : Side) (t : ContraTerms) (xs : List Response) (price : ℤ) (w v : Walk) (rows new : List FillRow) : Type 0 where
+  pub next : next_price w.contra_price (drop w.next xs) ≡ Some price
+  pub walk : v ≡ walk_past t price w xs
+  pub inside : v.next ≤ length xs
+  pub few : v.progress.left + v.progress.so_far ≤ 100000
+  pub rows_are : new ≡ take w.row rows ++ (rows_past side t price w xs ++ drop v.row rows)
 
 -- the walk after one level is underway, with that level's rows behind those before it
 pub steps_on : (side : Side) (t : ContraTerms) (xs : List Response) (old all : List FillRow) (w v : Walk) (price : ℤ) (rows new : List FillRow)
-    → Underway side t xs old all w rows → next_price w.own (drop w.next xs) ≡ Some price → length xs ≤ 64 → 129 ≤ length rows
-    → v ≡ walk_on w (walk_level price w xs) (walk_split t price w xs) → v.next ≤ length xs → v.progress.left + v.progress.so_far ≤ 100000
-    → new ≡ take w.at rows ++ (level_rows side (walk_level price w xs) (walk_split t price w xs) ++ drop v.at rows)
-    → Underway side t xs old all v new
-steps_on side t xs old all w v price rows new u next short long e inside few written =
+    → Underway side t xs old all w rows → Passed side t xs price w v rows new → length xs ≤ 64 → 129 ≤ length rows → Underway side t xs old all v new
+steps_on side t xs old all w v price rows new u passed short long =
+    let next = passed.next in
+    let e = passed.walk in
+    let inside = passed.inside in
+    let few = passed.few in
+    let written = passed.rows_are in
     let l : Level = walk_level price w xs in
     let s : Split = walk_split t price w xs in
     let on : Walk = walk_on w l s in
     let lr : List FillRow = level_rows side l s in
     let n : ℕ = length l.customers + (min s.contra 1 + length l.others) in
     let ahead = progress t xs w v price next e inside u.room in
-    let at_is : v.at ≡ w.at + n = ap (λ (x : Walk). x.at) e in
+    let at_is : v.row ≡ w.row + n = ap (λ (x : Walk). x.row) e in
     let count : length lr ≡ n = length_level_rows side l s in
-    let fits : w.at + n ≤ length rows = omega (arith, ahead.1) in
-    let here : new ≡ take w.at rows ++ (lr ++ drop (w.at + n) rows) = written ∙ ap (λ k. take w.at rows ++ (lr ++ drop k rows)) at_is in
-    let front : take v.at new ≡ take w.at rows ++ lr = ap (λ k. take k new) at_is ∙ ap (take (w.at + n)) here ∙ mid_take w.at n rows lr fits count in
-    let back : drop v.at new ≡ drop (w.at + n) rows = ap (λ k. drop k new) at_is ∙ ap (drop (w.at + n)) here ∙ mid_drop w.at n rows lr fits count in
-    let to_come : (x : Walk) → List FillRow = λ x. walked (u.turns - 1) side t x.own (drop x.next xs) x.progress.left x.progress.so_far in
+    let fits : w.row + n ≤ length rows = omega (arith, ahead.1) in
+    let here : new ≡ take w.row rows ++ (lr ++ drop (w.row + n) rows) = written ∙ ap (λ k. take w.row rows ++ (lr ++ drop k rows)) at_is in
+    let front : take v.row new ≡ take w.row rows ++ lr = ap (λ k. take k new) at_is ∙ ap (take (w.row + n)) here ∙ mid_take w.row n rows lr fits count in
+    let back : drop v.row new ≡ drop (w.row + n) rows = ap (λ k. drop k new) at_is ∙ ap (drop (w.row + n)) here ∙ mid_drop w.row n rows lr fits count in
+    let to_come : (x : Walk) → List FillRow = λ x. walk_rows (u.turns - 1) side t x.contra_price (drop x.next xs) x.progress.left x.progress.so_far in
     let some : 0 < u.turns = omega (arith, u.enough, ahead.0) in
-    let next_rows : walked u.turns side t w.own (drop w.next xs) w.progress.left w.progress.so_far ≡ lr ++ to_come on =
-    walked_on u.turns side t w.own (drop w.next xs) price w.progress.left w.progress.so_far some next
-    ∙ ap (λ ys. lr ++ walked (u.turns - 1) side t on.own ys on.progress.left on.progress.so_far) (drop-drop (length l.customers + length l.others) w.next xs) in
+    let next_rows : walk_rows u.turns side t w.contra_price (drop w.next xs) w.progress.left w.progress.so_far ≡ lr ++ to_come on =
+    walked_on u.turns side t w.contra_price (drop w.next xs) price w.progress.left w.progress.so_far some next
+    ∙ ap (λ ys. lr ++ walk_rows (u.turns - 1) side t on.contra_price ys on.progress.left on.progress.so_far) (drop-drop (length l.customers + length l.others) w.next xs) in
     record {
       turns = u.turns - 1;
       enough = omega (arith, u.enough, ahead.0);
       inside = inside;
       few = few;
       room = ahead.1;
-      shown = subst (λ (x : Walk). showable x.own ≡ true) (sym e) (still_showable w.own price u.shown);
+      shown = subst (λ (x : Walk). showable x.contra_price ≡ true) (sym e) (still_showable w.contra_price price u.shown);
       so_written =
-          ap (λ rs. rs ++ to_come v) front ∙ append_assoc (take w.at rows) lr (to_come v)
-          ∙ ap (λ x. take w.at rows ++ (lr ++ to_come x)) e
-          ∙ ap (λ rs. take w.at rows ++ rs) (sym next_rows)
+          ap (λ rs. rs ++ to_come v) front ∙ append_assoc (take w.row rows) lr (to_come v)
+          ∙ ap (λ x. take w.row rows ++ (lr ++ to_come x)) e
+          ∙ ap (λ rs. take w.row rows ++ rs) (sym next_rows)
           ∙ u.so_written;
-      untouched = back ∙ sym (drop-drop n w.at rows) ∙ ap (drop n) u.untouched ∙ drop-drop n w.at old ∙ ap (λ k. drop k old) (sym at_is);
+      untouched = back ∙ sym (drop-drop n w.row rows) ∙ ap (drop n) u.untouched ∙ drop-drop n w.row old ∙ ap (λ k. drop k old) (sym at_is);
     }
 
 -- at the end all is written
 pub all_written : (side : Side) (t : ContraTerms) (xs : List Response) (old all : List FillRow) (w : Walk) (rows : List FillRow)
-    → Underway side t xs old all w rows → next_price w.own (drop w.next xs) ≡ None → w.at ≤ length rows
-    → (rows ≡ all ++ drop w.at old) × (w.at ≡ length all)
+    → Underway side t xs old all w rows → next_price w.contra_price (drop w.next xs) ≡ None → w.row ≤ length rows
+    → (rows ≡ all ++ drop w.row old) × (w.row ≡ length all)
 all_written side t xs old all w rows u done fits =
-    let front : take w.at rows ≡ all = sym (append-nil (take w.at rows)) ∙ ap (λ rs. take w.at rows ++ rs) (sym (stands_still u.turns done)) ∙ u.so_written in (
-      sym (take-append-drop w.at rows) ∙ ap (λ rs. rs ++ drop w.at rows) front ∙ ap (λ rs. all ++ rs) u.untouched,
-      sym (length-take-le w.at rows fits) ∙ ap length front,
+    let front : take w.row rows ≡ all = sym (append-nil (take w.row rows)) ∙ ap (λ rs. take w.row rows ++ rs) (sym (stands_still u.turns done)) ∙ u.so_written in (
+      sym (take-append-drop w.row rows) ∙ ap (λ rs. rs ++ drop w.row rows) front ∙ ap (λ rs. all ++ rs) u.untouched,
+      sym (length-take-le w.row rows fits) ∙ ap length front,
     )
   where
-    stands_still : (f : ℕ) → next_price w.own (drop w.next xs) ≡ None → walked f side t w.own (drop w.next xs) w.progress.left w.progress.so_far ≡ []
+    stands_still : (f : ℕ) → next_price w.contra_price (drop w.next xs) ≡ None → walk_rows f side t w.contra_price (drop w.next xs) w.progress.left w.progress.so_far ≡ []
     stands_still zero e = refl
     stands_still (suc f) e = rw e refl

@@ -9,7 +9,7 @@ use Rattle.allocation.specs.declared.response.Response.{Response}
 
 -- what a read past the end would give
 abbrev pub no_response : Response
-no_response = record { member = 0; own = 0; kind = Sealed; class = Customer; size = 0; price = pos 0; arrival = 0 }
+no_response = record { member = 0; own_number = 0; kind = Sealed; class = Customer; size = 0; price = pos 0; arrival = 0 }
 
 module _ {Y : Type 0} where
   -- a run in the middle is written, and what lies before and past it stays

@@ -27,7 +27,8 @@ guarantee_ok g floor initiating = int_le g.price initiating && stop_ok g.kind fl
 
 -- The order's size is 1 to 100,000.
 abbrev pub terms_ok : PairedOrder → ℤ → ℤ → Bool
-terms_ok order floor initiating = from_to 1 100000 order.size && (range_ok floor initiating && guarantee_ok order.guarantee floor initiating)
+terms_ok order floor initiating =
+    from_to 1 100000 order.size && (range_ok floor initiating && guarantee_ok order.guarantee floor initiating)
 
 -- A response's size is 1 up to the order's, and its price is in the range.
 abbrev pub stored_ok : ℕ → ℤ → ℤ → ℕ → ℤ → Bool
@@ -35,7 +36,8 @@ stored_ok most floor initiating size price = from_to 1 most size && (int_le floo
 
 -- A response that may stand: members are 1 to 16, own numbers 1 to 4.
 abbrev pub response_ok : ℕ → ℤ → ℤ → Response → Bool
-response_ok most floor initiating x = from_to 1 16 x.member && (from_to 1 4 x.own && stored_ok most floor initiating x.size x.price)
+response_ok most floor initiating x =
+    from_to 1 16 x.member && (from_to 1 4 x.own_number && stored_ok most floor initiating x.size x.price)
 
 -- It holds of each.
 abbrev pub each : {X : Type 0} → (X → Bool) → List X → Bool
@@ -53,9 +55,9 @@ arrivals_apart (x ∷ xs) = arrival_free x.arrival xs && arrivals_apart xs
 
 -- No response has this member and own number.
 abbrev pub own_free : ℕ → ℕ → List Response → Bool
-own_free member own xs = each (λ (y : Response). not (is_of member own y)) xs
+own_free member own_number xs = each (λ (y : Response). not (is_of member own_number y)) xs
 
 -- No two responses have the same member and own number.
 abbrev pub owns_apart : List Response → Bool
 owns_apart [] = true
-owns_apart (x ∷ xs) = own_free x.member x.own xs && owns_apart xs
+owns_apart (x ∷ xs) = own_free x.member x.own_number xs && owns_apart xs

@@ -3,7 +3,7 @@ use Rattle.std.specs.Prelude.{◌≡◌, ℕ, ◌+◌, ◌*◌, ◌/◌, ◌<◌
 use Rattle.std.specs.List.{AllByRecursion}
 use Rattle.std.specs.List.Sorted.{IsPermutation}
 use Rattle.market.specs.declared.side.Side.{Side}
-use Rattle.market.specs.Side.{turned}
+use Rattle.market.specs.Side.{turned_price}
 use Rattle.allocation.specs.declared.fill.FillRow.{FillRow}
 use Rattle.allocation.specs.declared.response.Class.{Class}
 use Rattle.allocation.specs.declared.response.Class.TheVariants.{Customer, Other}
@@ -13,45 +13,60 @@ use Rattle.allocation.specs.declared.response.Response.{Response}
 use Rattle.allocation.specs.Response.{class_number}
 use Rattle.allocation.specs.Share.{total}
 
--- A response as it is told: all that it is, with its price not turned.
-pub record Told : Type 0 where
+-- A response that stood: all that it is, with its price not turned.
+pub record StoodResponse : Type 0 where
   pub member : ℕ
-  pub own : ℕ
+  pub own_number : ℕ
   pub price : ℤ
   pub class : Class
   pub kind : Kind
   pub size : ℕ
   pub arrival : ℕ
 
--- What is told of a response that stands; its price is turned back.
-abbrev pub response_told : Side → Response → Told
-response_told side x = record { member = x.member; own = x.own; price = turned side x.price; class = x.class; kind = x.kind; size = x.size; arrival = x.arrival }
+-- A response of an auction, its price turned back.
+abbrev pub stood_response : Side → Response → StoodResponse
+stood_response side x = record {
+  member = x.member;
+  own_number = x.own_number;
+  price = turned_price side x.price;
+  class = x.class;
+  kind = x.kind;
+  size = x.size;
+  arrival = x.arrival;
+}
 
 -- What a row shows of a response besides its fill.
-pub record Listed : Type 0 where
+pub record Listing : Type 0 where
   pub member : ℕ
-  pub own : ℕ
+  pub own_number : ℕ
   pub price : ℤ
   pub class : Class
   pub kind : Kind
   pub size : ℕ
 
 -- What a response has to be listed with.
-abbrev pub listed_of : Told → Listed
-listed_of x = record { member = x.member; own = x.own; price = x.price; class = x.class; kind = x.kind; size = x.size }
+abbrev pub listing_of : StoodResponse → Listing
+listing_of x = record { member = x.member; own_number = x.own_number; price = x.price; class = x.class; kind = x.kind; size = x.size }
 
 -- What a row lists: filled and left together are the size.
-abbrev pub row_listed : FillRow → Listed
-row_listed f = record { member = f.member; own = f.own; price = f.price; class = f.class; kind = f.kind; size = f.filled + f.left }
+abbrev pub row_listing : FillRow → Listing
+row_listing f = record {
+  member = f.member;
+  own_number = f.own_number;
+  price = f.price;
+  class = f.class;
+  kind = f.kind;
+  size = f.filled + f.left;
+}
 
 -- Rows of responses have a member; the contra's have none.
 abbrev pub of_response : FillRow → Bool
 of_response f = nat_lt 0 f.member
 
 -- Those of a list that pass a test, in their order.
-abbrev pub kept : {X : Type 0} → (X → Bool) → List X → List X
-kept p [] = []
-kept p (x ∷ xs) = cond (p x) (x ∷ kept p xs) (kept p xs)
+abbrev pub those : {X : Type 0} → (X → Bool) → List X → List X
+those p [] = []
+those p (x ∷ xs) = cond (p x) (x ∷ those p xs) (those p xs)
 
 -- The contracts filled in these rows.
 abbrev pub filled_in : List FillRow → ℕ
@@ -78,7 +93,7 @@ classmate f g = of_response g && (same_class f.class g.class && same_price f.pri
 
 -- The rows of the responses of a row's class at its price.
 abbrev pub classmates : FillRow → List FillRow → List FillRow
-classmates f fs = kept (classmate f) fs
+classmates f fs = those (classmate f) fs
 
 -- k × size / t rounded down, or one more.
 abbrev pub ProRata : ℕ → ℕ → FillRow → Type 0
@@ -86,28 +101,34 @@ ProRata k t f = (f.filled ≡ k * (f.filled + f.left) / t) ⊎ (f.filled ≡ k *
 
 -- A row that is the contra's, whose member is 0.
 pub record ContraRow (f : FillRow) : Type 0 where
-  pub no_number : f.own ≡ 0
+  pub no_number : f.own_number ≡ 0
   pub as_other : class_number f.class ≡ 1
   pub as_plain : f.kind ≡ Plain
   pub some_filled : 0 < f.filled
   pub none_left : f.left ≡ 0
 
--- The order's side and size, the floor and the initiating price (turned), the responses that stood as they are told, and the
+-- The order's side and size, the floor and the initiating price (turned), the responses that stood, and the
 -- rows.
-pub record FillLaws (side : Side) (size : ℕ) (floor initiating : ℤ) (told : List Told) (rows : List FillRow) : Type 0 where
+pub record FillLaws (side : Side) (size : ℕ) (floor initiating : ℤ) (stood : List StoodResponse) (rows : List FillRow) : Type 0 where
   -- The rows of responses list exactly once each response that stood: with its member, own number, price (not turned),
   -- class and kind, and filled + left is its size. So filled is at most its size.
-  pub each_once : IsPermutation (map listed_of told) (map row_listed (kept of_response rows))
+  pub each_once : IsPermutation (map listing_of stood) (map row_listing (those of_response rows))
   -- The other rows are the contra's.
   pub others_contra : AllByRecursion (λ f. of_response f ≡ false → ContraRow f) rows
   -- The filled of all rows total the order's size.
   pub whole_size : filled_in rows ≡ size
   -- Each row that trades has its turned price from the floor to the initiating price.
-  pub in_range : AllByRecursion (λ f. 0 < f.filled → (floor ≤ℤ turned side f.price) × (turned side f.price ≤ℤ initiating)) rows
+  pub in_range : AllByRecursion (λ f. 0 < f.filled → (floor ≤ℤ turned_price side f.price) × (turned_price side f.price ≤ℤ initiating)) rows
   -- No row trades at a price while a response at a better (lower turned) price has contracts left.
-  pub better_first : AllByRecursion (λ f. AllByRecursion (λ g. of_response g ≡ true → 0 < g.left → turned side g.price <ℤ turned side f.price → f.filled ≡ 0) rows) rows
+  pub better_first :
+      AllByRecursion (λ f. AllByRecursion (λ g.
+      of_response g ≡ true → 0 < g.left → turned_price side g.price <ℤ turned_price side f.price → f.filled ≡ 0) rows) rows
   -- At one price no other response and no contra trades while a customer has contracts left.
-  pub customers_first : AllByRecursion (λ f. AllByRecursion (λ g. g.class ≡ Customer → 0 < g.left → g.price ≡ f.price → f.class ≡ Other → f.filled ≡ 0) rows) rows
+  pub customers_first :
+      AllByRecursion (λ f. AllByRecursion (λ g.
+      g.class ≡ Customer → 0 < g.left → g.price ≡ f.price → f.class ≡ Other → f.filled ≡ 0) rows) rows
   -- In each class at each price a response's filled is K × size / T rounded down, or one more, where K is what the
   -- class's responses got there in all and T their total size.
-  pub pro_rata : AllByRecursion (λ f. of_response f ≡ true → ProRata (filled_in (classmates f rows)) (size_in (classmates f rows)) f) rows
+  pub pro_rata :
+      AllByRecursion (λ f. of_response f ≡ true
+      → ProRata (filled_in (classmates f rows)) (size_in (classmates f rows)) f) rows

@@ -20,8 +20,8 @@ leading price c (x ∷ xs) = cond (stands_at price c x) (suc (leading price c xs
 
 -- The lowest price that is still to come, if there is any: that of the first response, and the contra's own while it is.
 abbrev pub next_price : Option ℤ → List Response → Option ℤ
-next_price own [] = own
-next_price (Some own) (x ∷ xs) = Some (int_min x.price own)
+next_price coming [] = coming
+next_price (Some coming) (x ∷ xs) = Some (int_min x.price coming)
 next_price None (x ∷ xs) = Some x.price
 
 -- The level of this price at the front of arranged responses, of so many customers and then so many others.
@@ -30,7 +30,9 @@ counted_level price c o xs = record { price = price; customers = take c xs; othe
 
 -- The level of this price at the front of arranged responses.
 abbrev pub front_level : ℤ → List Response → Level
-front_level price xs = counted_level price (leading price Customer xs) (leading price Other (drop (leading price Customer xs) xs)) xs
+front_level price xs =
+    let customers = leading price Customer xs in
+    counted_level price customers (leading price Other (drop customers xs)) xs
 
 -- Sizes are 1 to 100,000, and prices small enough to be turned.
 abbrev pub Sized : Response → Type 0

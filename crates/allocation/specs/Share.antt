@@ -17,11 +17,11 @@ parts_total k t [] = 0
 parts_total k t (s ∷ ss) = k * s / t + parts_total k t ss
 
 -- To each k × size / t rounded down, and to the first `odd` of them one more.
-abbrev pub dealt : ℕ → ℕ → ℕ → List ℕ → List ℕ
-dealt k t odd [] = []
-dealt k t odd (s ∷ ss) = (k * s / t + min odd 1) ∷ dealt k t (odd - 1) ss
+abbrev pub deal : ℕ → ℕ → ℕ → List ℕ → List ℕ
+deal k t odd [] = []
+deal k t odd (s ∷ ss) = (k * s / t + min odd 1) ∷ deal k t (odd - 1) ss
 
 -- All are filled if k is at least their total. Otherwise each gets k × size / total rounded down, and the odd contracts
 -- go one each in ranking order.
-abbrev pub shared : ℕ → List ℕ → List ℕ
-shared k ss = cond (nat_le (total ss) k) ss (dealt k (total ss) (k - parts_total k (total ss) ss) ss)
+abbrev pub shares : ℕ → List ℕ → List ℕ
+shares k ss = cond (nat_le (total ss) k) ss (deal k (total ss) (k - parts_total k (total ss) ss) ss)

@@ -8,16 +8,16 @@ pub use Rattle.allocation.specs.declared.split.Split.{Split}
 
 -- The contra's guaranteed share of an order: 40% of its size rounded down, 50% with just one response standing, and at
 -- least 1.
-abbrev pub guaranteed : ℕ → ℕ → ℕ
-guaranteed size standing = max 1 (size * cond (standing == 1) 50 40 / 100)
+abbrev pub guaranteed_share : ℕ → ℕ → ℕ
+guaranteed_share size standing = max 1 (size * cond (standing == 1) 50 40 / 100)
 
 -- The others, of size n together, share the r contracts.
 abbrev pub others_share : ℕ → ℕ → Rest
 others_share r n = record { contra = 0; others = min r n }
 
 -- The contra matches both classes together, w, and the others get all they asked for.
-abbrev pub matched : ℕ → ℕ → Rest
-matched w n = record { contra = w; others = n }
+abbrev pub whole_match : ℕ → ℕ → Rest
+whole_match w n = record { contra = w; others = n }
 
 -- The clean-up: the contra takes the lesser of r and g, the others share, and the contra takes the rest.
 abbrev pub clean_up : ℕ → ℕ → ℕ → Rest
@@ -42,7 +42,7 @@ abbrev pub match_between : ContraTerms → ℕ → ℕ → ℕ → ℕ → Rest
 match_between t r m c n =
     cond (nat_le t.guaranteed m)
     (others_share r n)
-    (cond (nat_le (n + (c + n)) r) (matched (c + n) n) (clean_up r (t.guaranteed - m) n))
+    (cond (nat_le (n + (c + n)) r) (whole_match (c + n) n) (clean_up r (t.guaranteed - m) n))
 
 -- Auto-match limit: below its price the others share, and the initiating price is always a clean-up.
 abbrev pub match_rest : ContraTerms → ℤ → ℕ → ℕ → ℕ → ℕ → Rest
@@ -66,5 +66,5 @@ abbrev pub split : ContraTerms → ℤ → ℕ → ℕ → ℕ → ℕ → Split
 split t price r m c n = with_customers (min r c) (rest_by t.guarantee.kind t price (r - min r c) m c n)
 
 -- The contracts that a level takes in all.
-abbrev pub taken : Split → ℕ
-taken s = s.customers + (s.contra + s.others)
+abbrev pub total_taken : Split → ℕ
+total_taken s = s.customers + (s.contra + s.others)

@@ -9,25 +9,25 @@ use Rattle.allocation.specs.declared.split.Split.{Split}
 use Rattle.allocation.specs.declared.walk.Walk.{Walk}
 use Rattle.allocation.specs.FillLaws.{same_price}
 use Rattle.allocation.specs.Fill.{level_rows, split_at}
-use Rattle.allocation.specs.Levels.{Level}
+use Rattle.allocation.specs.Levels.{Level, contra_level}
 use Rattle.allocation.specs.LevelSteps.{next_price, front_level}
-use Rattle.allocation.specs.Split.{taken}
+use Rattle.allocation.specs.Split.{total_taken}
 
 -- The contra's own price is still to come, unless this price is it.
 abbrev pub still_to_come : Option ℤ → ℤ → Option ℤ
 still_to_come None price = None
-still_to_come (Some own) price = cond (same_price price own) None (Some own)
+still_to_come (Some coming) price = cond (same_price price coming) None (Some coming)
 
 -- The responses behind a level.
 abbrev pub behind_level : Level → List Response → List Response
 behind_level l xs = drop (length l.customers + length l.others) xs
 
 -- The rows of at most so many levels of arranged responses, with r contracts left and m the contra's so far.
-abbrev pub walked : ℕ → Side → ContraTerms → Option ℤ → List Response → ℕ → ℕ → List FillRow
-walked zero side t own xs r m = []
-walked (suc turns) side t own xs r m =
-    let rows : Level → List FillRow = λ l. level_rows side l (split_at t l r m) ++ walked turns side t (still_to_come own l.price) (behind_level l xs) (r - taken (split_at t l r m)) (m + (split_at t l r m).contra) in
-    unwrap_or (option_map (λ price. rows (front_level price xs)) (next_price own xs)) []
+abbrev pub walk_rows : ℕ → Side → ContraTerms → Option ℤ → List Response → ℕ → ℕ → List FillRow
+walk_rows zero side t coming xs r m = []
+walk_rows (suc turns) side t coming xs r m =
+    let rows : Level → List FillRow = λ l. level_rows side l (split_at t l r m) ++ walk_rows turns side t (still_to_come coming l.price) (behind_level l xs) (r - total_taken (split_at t l r m)) (m + (split_at t l r m).contra) in
+    unwrap_or (option_map (λ price. rows (front_level price xs)) (next_price coming xs)) []
 
 -- The level of a price that a walk is at.
 abbrev pub walk_level : ℤ → Walk → List Response → Level
@@ -40,8 +40,19 @@ walk_split t price w xs = split_at t (walk_level price w xs) w.progress.left w.p
 -- The walk one level on.
 abbrev pub walk_on : Walk → Level → Split → Walk
 walk_on w l s = record {
-  own = still_to_come w.own l.price;
+  contra_price = still_to_come w.contra_price l.price;
   next = w.next + (length l.customers + length l.others);
-  at = w.at + (length l.customers + (min s.contra 1 + length l.others));
-  progress = record { left = w.progress.left - taken s; so_far = w.progress.so_far + s.contra };
+  row = w.row + (length l.customers + (min s.contra 1 + length l.others));
+  progress = record { left = w.progress.left - total_taken s; so_far = w.progress.so_far + s.contra };
 }
+
+-- The walk past the level of a price, and the rows that it writes there.
+abbrev pub walk_past : ContraTerms → ℤ → Walk → List Response → Walk
+walk_past t price w xs = walk_on w (walk_level price w xs) (walk_split t price w xs)
+
+abbrev pub rows_past : Side → ContraTerms → ℤ → Walk → List Response → List FillRow
+rows_past side t price w xs = level_rows side (walk_level price w xs) (walk_split t price w xs)
+
+-- The rows of all levels of arranged responses, for an order of this size.
+abbrev pub all_rows : Side → ContraTerms → List Response → ℕ → List FillRow
+all_rows side t xs size = walk_rows (length xs + 1) side t (Some (contra_level t.guarantee.kind t)) xs size 0

@@ -1,9 +1,8 @@
-// The values of an auction: the order with its guarantee, its range, and the responses that stand. Prices are turned. Which
-// responses and floors it gets is decided above.
-ghost use Rattle.std.specs.Prelude.{◌≡◌, true, is_some, if◌then◌else◌, ◌&&◌, int_le};
-ghost use Rattle.std.specs.Option.{option_map};
+// The values of an auction: the order with its guarantee, its range, and the responses that stand. Prices are
+// turned. Which responses and floors it gets is decided above.
+ghost use Rattle.std.specs.Prelude.{◌≡◌, true, is_some, ◌&&◌, int_le};
 ghost use Rattle.allocation.specs.AuctionInvariant.{terms_ok, stored_ok, response_ok, each, arrival_free, arrivals_apart, owns_apart};
-ghost use Rattle.allocation.specs.Table.{standing, place_of, own_response, any_below};
+ghost use Rattle.allocation.specs.Table.{standing, own_response, any_below};
 
 use crate::limits::{is_member, is_own_number};
 use crate::order::PairedOrder;
@@ -11,7 +10,9 @@ use crate::response::{NewTerms, Response, ResponseId};
 use crate::table::ResponseTable;
 use crate::terms::AuctionTerms;
 
-#[derive(Clone, Copy)]
+/// An auction: its order with the guarantee, the range of turned prices from its floor to its initiating
+/// price, and the responses that stand, 64 at most. It is a value in fixed memory and takes no heap.
+#[derive(Drop)]
 pub struct Auction {
     pub(crate) order: PairedOrder,
     pub(crate) floor: i64,
@@ -27,56 +28,49 @@ pub struct Auction {
 impl Auction {
     ghost use Rattle.allocation.specs.Auction.{auction_values, new_auction};
 
-    // An auction with no response yet; none where no auction can have these terms, for whatever reason: whoever makes one asks
-    // no more.
-    pub fn new(order: PairedOrder, floor: i64, initiating: i64) -> Option<Auction>
-        ensures { option_map auction_values result ≡ new_auction order floor initiating }
+    /// An auction of these terms, with no response yet. `AuctionTerms::hold` tells whether an auction can
+    /// have them.
+    pub fn new(terms: AuctionTerms) -> Auction
+        requires { terms_ok terms.order terms.floor terms.initiating ≡ true }
+        ensures { auction_values result ≡ new_auction terms.order terms.floor terms.initiating }
     {
-        let terms = AuctionTerms {
-            order,
-            floor,
-            initiating,
-        };
-        if !terms.hold() {
-            return None;
-        }
-        Some(Auction {
-            order,
-            floor,
-            initiating,
+        Auction {
+            order: terms.order,
+            floor: terms.floor,
+            initiating: terms.initiating,
             table: ResponseTable::empty(),
-        })
+        }
     }
 
-    // The order with its guarantee, as stored.
+    /// The order with its guarantee, as stored: limit and guarantee are turned.
     pub fn order(&self) -> PairedOrder
         ensures { result ≡ (auction_values self.now).order }
     {
         self.order
     }
 
-    // The price where the range begins, turned.
+    /// The price where the range begins, turned, in cents.
     pub fn floor(&self) -> i64
         ensures { result ≡ (auction_values self.now).floor }
     {
         self.floor
     }
 
-    // The price where the range ends, turned.
+    /// The price where the range ends, turned, in cents.
     pub fn initiating(&self) -> i64
         ensures { result ≡ (auction_values self.now).initiating }
     {
         self.initiating
     }
 
-    // The standing response of this member with this own number, if there is one.
+    /// The standing response of this member with this own number, if there is one.
     pub fn response_of(&self, of: ResponseId) -> Option<Response>
-        ensures { result ≡ own_response of.member of.own (auction_values self.now).stood }
+        ensures { result ≡ own_response of.member of.own_number (auction_values self.now).stood }
     {
         self.table.own_response(of)
     }
 
-    // A response stands at a price below this one, both turned.
+    /// Whether a response stands at a price below this one, both turned, in cents.
     pub fn is_any_below(&self, price: i64) -> bool
         ensures { result ≡ any_below price (auction_values self.now).stood }
     {
@@ -90,9 +84,9 @@ impl Auction {
     }
 }
 
-// Storing, changing and withdrawing responses.
+// Which responses may stand.
 impl Auction {
-    ghost use Rattle.allocation.specs.Auction.{auction_values, may_store, stored, may_change, changed, withdrawn};
+    ghost use Rattle.allocation.specs.Auction.{auction_values, may_store, may_change};
 
     // A price, turned, that is in the auction's range.
     fn is_in_range(&self, price: i64) -> bool
@@ -112,7 +106,7 @@ impl Auction {
         ensures { result ≡ response_ok self.now.order.size self.now.floor self.now.initiating response.now }
     {
         is_member(response.member)
-            && is_own_number(response.own)
+            && is_own_number(response.own_number)
             && self.may_stand_at(response.size, response.price)
     }
 
@@ -125,64 +119,58 @@ impl Auction {
             .all(|response| response.arrival != arrival)
     }
 
-    pub(crate) fn may_store(&self, response: &Response) -> bool
+    /// Whether this response may be stored: it may stand, its arrival number and its member's own number are
+    /// not in use, and fewer than 64 stand.
+    pub fn may_store(&self, response: &Response) -> bool
         ensures { result ≡ may_store (auction_values self.now) response.now }
     {
         self.may_stand(response)
             && self.is_arrival_free(response.arrival)
-            && self.table.find(response.id()).is_none()
-            && self.table.has_place()
+            && self.response_of(response.id()).is_none()
+            && !self.table.is_full()
     }
 
-    // New values that a standing response may have.
-    pub(crate) fn may_restore(&self, to: NewTerms) -> bool
-        ensures { result ≡ (stored_ok self.now.order.size self.now.floor self.now.initiating to.size to.price && arrival_free to.arrival (standing self.now.table)) }
+    /// Whether the response of this member with this own number stands, may stand with these terms, and the
+    /// new arrival number is not in use.
+    pub fn may_change(&self, of: ResponseId, to: NewTerms) -> bool
+        ensures { result ≡ may_change (auction_values self.now) of to }
     {
-        self.may_stand_at(to.size, to.price) && self.is_arrival_free(to.arrival)
+        self.response_of(of).is_some()
+            && self.may_stand_at(to.size, to.price)
+            && self.is_arrival_free(to.arrival)
     }
+}
 
-    // Stores a response behind those that stand; false, and nothing changes, where it may not stand.
-    // The answer is a yes or no and no error: a room has looked at the reasons, and told them, before, and no other caller asks.
-    pub fn store(&mut self, response: Response) -> bool
-        ensures answer { result ≡ may_store (auction_values self.old) response }
-        ensures after { auction_values self.new ≡ stored (auction_values self.old) response }
+// Storing, changing and withdrawing responses.
+impl Auction {
+    ghost use Rattle.allocation.specs.Auction.{auction_values, may_store, after_store, may_change, after_change, after_withdrawal};
+
+    /// Stores a response behind those that stand. `may_store` tells whether it may be.
+    pub fn store(&mut self, response: Response)
+        requires { may_store (auction_values self.old) response ≡ true }
+        ensures { auction_values self.new ≡ after_store (auction_values self.old) response }
     {
-        if !self.may_store(&response) {
-            return false;
-        }
         self.table.push(response);
-        true
     }
 
-    // Changes the size and the price, turned, of the response of this member with this own number, which gets a new
-    // arrival number; false, and nothing changes, where none stands or it may not stand so.
-    // The answer is a yes or no and no error: a room has looked at the reasons, and told them, before, and no other caller asks.
-    pub fn change(&mut self, of: ResponseId, to: NewTerms) -> bool
-        ensures answer { result ≡ may_change (auction_values self.old) (place_of of.member of.own (standing self.old.table)) to.size to.price to.arrival }
-        ensures after { auction_values self.new ≡ changed (auction_values self.old) of.member of.own to.size to.price to.arrival }
+    /// Changes the size, the price, turned, and the arrival number of the response of this member with this
+    /// own number. `may_change` tells whether it may be.
+    pub fn change(&mut self, of: ResponseId, to: NewTerms)
+        requires { may_change (auction_values self.old) of to ≡ true }
+        ensures { auction_values self.new ≡ after_change (auction_values self.old) of to }
     {
-        let Some(at) = self.table.find(of) else {
-            return false;
-        };
-        let may_change = self.may_restore(to);
-        if may_change {
-            self.table.rewrite(at, to);
-        }
-        may_change
+        let index = self.table.index_of(of);
+        self.table.rewrite(index, to);
     }
 
-    // Withdraws the response of this member with this own number; false where none stands.
-    // The answer is a yes or no and no error: a room has looked at the reasons, and told them, before, and no other caller asks.
-    #[tactic(auto, using(crate::proofs::AuctionKept::each_without, crate::proofs::AuctionKept::apart_without, crate::proofs::OwnsKept::owns_without))]
-    pub fn withdraw(&mut self, of: ResponseId) -> bool
-        ensures answer { result ≡ is_some (place_of of.member of.own (standing self.old.table)) }
-        ensures after { auction_values self.new ≡ withdrawn (auction_values self.old) of.member of.own }
+    /// Withdraws the response of this member with this own number, which stands: `response_of` tells whether
+    /// it does.
+    pub fn withdraw(&mut self, of: ResponseId)
+        requires { is_some (own_response of.member of.own_number (auction_values self.old).stood) ≡ true }
+        ensures { auction_values self.new ≡ after_withdrawal (auction_values self.old) of }
     {
-        let Some(at) = self.table.find(of) else {
-            return false;
-        };
-        self.table.remove(at);
-        true
+        let index = self.table.index_of(of);
+        self.table.remove(index);
     }
 }
 
@@ -203,22 +191,19 @@ impl Auction {
         }
     }
 
-    fn may_move_floor(&self, floor: i64) -> bool
+    /// Whether the auction can have this floor, turned, in cents: with the same order and initiating price,
+    /// and no response below it.
+    pub fn may_move_floor(&self, floor: i64) -> bool
         ensures { result ≡ may_move_floor (auction_values self.now) floor }
     {
         self.terms_from(floor).hold() && !self.is_any_below(floor)
     }
 
-    // Gives the auction another floor, if an auction can have it; false, and nothing changes, where it cannot.
-    // The answer is a yes or no and no error: a room has looked at the reasons, and told them, before, and no other caller asks.
-    pub fn move_floor(&mut self, floor: i64) -> bool
-        ensures answer { result ≡ may_move_floor (auction_values self.old) floor }
-        ensures after { auction_values self.new ≡ (if may_move_floor (auction_values self.old) floor then with_floor (auction_values self.old) floor else auction_values self.old) }
+    /// Gives the auction another floor, turned, in cents. `may_move_floor` tells whether it can have it.
+    pub fn move_floor(&mut self, floor: i64)
+        requires { may_move_floor (auction_values self.old) floor ≡ true }
+        ensures { auction_values self.new ≡ with_floor (auction_values self.old) floor }
     {
-        if !self.may_move_floor(floor) {
-            return false;
-        }
         self.floor = floor;
-        true
     }
 }

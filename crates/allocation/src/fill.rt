@@ -1,11 +1,10 @@
 // The fill list of an auction: its rows, and how they are written.
-ghost use Rattle.std.specs.Prelude.{◌≡◌, ◌≤◌, ◌++◌, length, drop};
+ghost use Rattle.std.specs.Prelude.{◌≡◌, ◌≤◌, ◌++◌, length, take, drop};
 ghost use Rattle.market.specs.Market.{told_by};
-ghost use Rattle.allocation.specs.Auction.{auction_values, auction_fills, fill_answer, rows_after, LawfullyFilled, LevelsInRankingOrder};
+ghost use Rattle.allocation.specs.Auction.{auction_values, ranked_fills, fill_answer, rows_after, LawfulFills, LawfullyFilled, LevelsInRankingOrder};
 ghost use Rattle.allocation.specs.Fill.{contra_terms};
-ghost use Rattle.allocation.specs.Ranking.{by_key};
 ghost use Rattle.allocation.specs.Refusal.{fill_number};
-ghost use Rattle.allocation.specs.Split.{guaranteed};
+ghost use Rattle.allocation.specs.Split.{guaranteed_share};
 ghost use Rattle.allocation.specs.Table.{standing};
 
 use crate::arrange::arrange;
@@ -13,33 +12,41 @@ use crate::auction::Auction;
 use crate::order::ContraTerms;
 use crate::ranking::Ranking;
 use crate::refusal::FillRefusal;
-use crate::response::{Class, Kind};
+use crate::response::{Class, Kind, Response};
 use crate::share::Standing;
 use crate::split::guaranteed_share;
 use crate::walk::ShareOut;
 
-// The fewest rows that hold every fill list: one for each of 64 responses, and one for the contra at each of 65 prices.
+/// The fewest rows that hold every fill list: one for each of 64 responses, and one for the contra at each of
+/// 65 prices.
 pub const LEAST_ROWS: usize = 129;
 
-// The price is not turned. The contra's rows have member and own number 0: the venue's form of a row, in
-// which there is no enum of parties.
+/// A row of a fill list: what a response got, or what the contra firm got at a price. The contra's rows have
+/// member and own number 0: the venue's form of a row, in which there is no enum of parties.
 #[derive(Clone, Copy)]
 pub struct FillRow {
+    /// The price, not turned, in cents.
     pub price: i64,
+    /// The member that responded; 0 in the contra's rows.
     pub member: u8,
-    pub own: u8,
+    /// The number that the member gave the response; 0 in the contra's rows.
+    pub own_number: u8,
+    /// The class of the response; other in the contra's rows.
     pub class: Class,
+    /// The kind of the response; plain in the contra's rows.
     pub kind: Kind,
+    /// Contracts that it got.
     pub filled: u32,
+    /// Contracts that it asked for and did not get; 0 in the contra's rows.
     pub left: u32,
 }
 
 impl FillRow {
-    // A row before anything is written into it.
+    /// A row before anything is written into it.
     pub const BLANK: FillRow = FillRow {
         price: 0,
         member: 0,
-        own: 0,
+        own_number: 0,
         class: Class::Other,
         kind: Kind::Plain,
         filled: 0,
@@ -48,11 +55,11 @@ impl FillRow {
 }
 
 impl Auction {
-    // The contra's guaranteed share, in contracts.
+    /// The contra's guaranteed share, in contracts.
     pub fn guaranteed(&self) -> u32
-        ensures { result ≡ guaranteed self.now.order.size (length (standing self.now.table)) }
+        ensures { result ≡ guaranteed_share self.now.order.size (length (standing self.now.table)) }
     {
-        guaranteed_share(self.order.size, self.table.len)
+        guaranteed_share(self.order.size, self.table.standing().len())
     }
 
     // What the contra's part goes by.
@@ -66,14 +73,20 @@ impl Auction {
         }
     }
 
-    // Writes all rows of the fill list and answers how many there are.
-    fn write_fills<R: Ranking>(&self, ranking: &R, rows: &mut [FillRow]) -> usize
+    /// Shares out the order's contracts among the responses that stand and the contra firm: writes who gets
+    /// how many at which price from the first row on, and answers how many rows that are. The list has
+    /// `LEAST_ROWS` rows or more; `fill` tests it.
+    pub fn write_fills<R: Ranking>(&self, ranking: &R, rows: &mut [FillRow]) -> usize
         requires { 129 ≤ length rows.old }
-        ensures count { result ≡ length (auction_fills (by_key (R.Ranking.ahead ranking.now)) (auction_values self.now)) }
-        ensures rows { rows.new ≡ auction_fills (by_key (R.Ranking.ahead ranking.now)) (auction_values self.now) ++ drop result rows.old }
+        ensures count { result ≡ length (ranked_fills (R.Ranking.ahead ranking.now) (auction_values self.now)) }
+        ensures rows { rows.new ≡ ranked_fills (R.Ranking.ahead ranking.now) (auction_values self.now) ++ drop result rows.old }
+        ensures ranked { LevelsInRankingOrder (R.Ranking.ahead ranking.now) (auction_values self.now) }
+        ensures laws { LawfulFills (R.Ranking.ahead ranking.now) (auction_values self.now) (take result rows.new) }
     {
-        let mut responses = self.table.rows;
-        let standing = &mut responses[..self.table.len];
+        let stood = self.table.standing();
+        let mut responses = [Response::BLANK; 64];
+        let standing = &mut responses[..stood.len()];
+        standing.copy_from_slice(stood);
         arrange(ranking, standing);
         let share_out = ShareOut {
             side: self.order.side,
@@ -85,12 +98,12 @@ impl Auction {
         share_out.write_rows(self.order.size, rows)
     }
 
-    // Shares out the order's contracts among the responses that stand and the contra firm, and writes who gets how many
-    // at which price.
+    /// Shares out likewise, and refuses a list of fewer than `LEAST_ROWS` rows, of which none is then
+    /// written.
     pub fn fill<R: Ranking>(&self, ranking: &R, rows: &mut [FillRow]) -> Result<usize, FillRefusal>
-        ensures answer { told_by fill_number result ≡ fill_answer (auction_fills (by_key (R.Ranking.ahead ranking.now)) (auction_values self.now)) rows.old }
-        ensures rows { rows.new ≡ rows_after (auction_fills (by_key (R.Ranking.ahead ranking.now)) (auction_values self.now)) rows.old }
-        ensures ranked { LevelsInRankingOrder (by_key (R.Ranking.ahead ranking.now)) (auction_values self.now) }
+        ensures answer { told_by fill_number result ≡ fill_answer (R.Ranking.ahead ranking.now) (auction_values self.now) rows.old }
+        ensures rows { rows.new ≡ rows_after (R.Ranking.ahead ranking.now) (auction_values self.now) rows.old }
+        ensures ranked { LevelsInRankingOrder (R.Ranking.ahead ranking.now) (auction_values self.now) }
         ensures laws { LawfullyFilled (R.Ranking.ahead ranking.now) (auction_values self.now) result rows.old rows.new }
     {
         if rows.len() < LEAST_ROWS {

@@ -1,9 +1,10 @@
-// Levels: from arranged responses to the customers and the others at one price, what each gets there, and its rows.
+// Levels: from arranged responses to the customers and the others at one price, what each gets there, and its
+// rows.
 ghost use Rattle.std.specs.Prelude.{◌≡◌, ◌≤◌, true, length, take, drop, Some};
 ghost use Rattle.market.specs.Limits.{showable};
 ghost use Rattle.allocation.specs.Fill.{contra_row, level_rows, split_at};
 ghost use Rattle.allocation.specs.LevelSteps.{stands_at, leading, front_level};
-ghost use Rattle.allocation.specs.Split.{taken};
+ghost use Rattle.allocation.specs.Split.{total_taken};
 
 use crate::fill::FillRow;
 use crate::order::ContraTerms;
@@ -12,10 +13,12 @@ use crate::share::Standing;
 use crate::split::{Asked, Progress, Split};
 use market::side::Side;
 
-// A place where responses may stand.
+/// A class at a price, where responses may stand.
 #[derive(Clone, Copy)]
-pub struct Place {
+pub struct ClassAtPrice {
+    /// The price, turned, in cents.
     pub price: i64,
+    /// Customer or other.
     pub class: Class,
 }
 
@@ -30,30 +33,32 @@ pub(crate) struct LevelPlan<'a> {
     ghost few: { split.contra ≤ 100000 },
 }
 
-fn is_at(response: &Response, place: &Place) -> bool
-    ensures { result ≡ stands_at place.now.price place.now.class response.now }
+fn is_at(response: &Response, at: &ClassAtPrice) -> bool
+    ensures { result ≡ stands_at at.now.price at.now.class response.now }
 {
-    response.class == place.class && response.price == place.price
+    response.class == at.class && response.price == at.price
 }
 
-// How many responses at the front stand at this place.
-fn run_length(responses: &[Response], place: &Place) -> usize
-    ensures value { result ≡ leading place.now.price place.now.class responses.now }
+// How many responses at the front stand there.
+fn run_length(responses: &[Response], at: &ClassAtPrice) -> usize
+    ensures value { result ≡ leading at.now.price at.now.class responses.now }
     ensures most { result ≤ length responses.now }
 {
     responses
         .iter()
-        .take_while(|response| is_at(response, place))
+        .take_while(|response| is_at(response, at))
         .count()
 }
 
 impl<'a> Standing<'a> {
-    // Those at the front that stand at this place, and those behind them.
-    fn split_run(&self, place: &Place) -> (Standing<'a>, Standing<'a>)
-        ensures run { result.0.responses.now ≡ take (leading place.now.price place.now.class self.now.responses.now) self.now.responses.now }
-        ensures behind { result.1.responses.now ≡ drop (leading place.now.price place.now.class self.now.responses.now) self.now.responses.now }
+    // Those at the front that stand there, and those behind them.
+    fn split_run(&self, at: &ClassAtPrice) -> (Standing<'a>, Standing<'a>)
+        ensures run { result.0.responses.now
+            ≡ take (leading at.now.price at.now.class self.now.responses.now) self.now.responses.now }
+        ensures behind { result.1.responses.now
+            ≡ drop (leading at.now.price at.now.class self.now.responses.now) self.now.responses.now }
     {
-        self.split_at(run_length(self.responses, place))
+        self.split_at(run_length(self.responses, at))
     }
 }
 
@@ -70,14 +75,15 @@ impl<'a> LevelPlan<'a> {
         requires price { showable (Some price) ≡ true }
         requires left { progress.left ≤ 100000 }
         ensures level { planned_level result ≡ front_level price arranged.now.responses.now }
-        ensures split { result.split ≡ split_at terms.now (front_level price arranged.now.responses.now) progress.left progress.so_far }
-        ensures least { taken result.split ≤ progress.left }
+        ensures split { result.split
+            ≡ split_at terms.now (front_level price arranged.now.responses.now) progress.left progress.so_far }
+        ensures least { total_taken result.split ≤ progress.left }
     {
-        let (customers, behind) = arranged.split_run(&Place {
+        let (customers, behind) = arranged.split_run(&ClassAtPrice {
             price,
             class: Class::Customer,
         });
-        let (others, _) = behind.split_run(&Place {
+        let (others, _) = behind.split_run(&ClassAtPrice {
             price,
             class: Class::Other,
         });
@@ -107,7 +113,7 @@ impl<'a> LevelPlan<'a> {
         FillRow {
             price: side.turn(self.price),
             member: 0,
-            own: 0,
+            own_number: 0,
             class: Class::Other,
             kind: Kind::Plain,
             filled: self.split.contra as u32,
@@ -115,7 +121,8 @@ impl<'a> LevelPlan<'a> {
         }
     }
 
-    // Writes the level's rows, all of them and no others: the customers', the contra's if it gets any, and the others'.
+    // Writes the level's rows, all of them and no others: the customers', the contra's if it gets any, and
+    // the others'.
     pub(crate) fn write_rows(&self, side: Side, rows: &mut [FillRow])
         requires { length rows.old ≡ plan_rows self.now }
         ensures { rows.new ≡ level_rows side (planned_level self.now) self.now.split }

@@ -14,5 +14,5 @@ pub mod response;
 mod share;
 mod split;
 mod table;
-mod terms;
+pub mod terms;
 mod walk;

@@ -2,23 +2,23 @@
 ghost use Rattle.std.specs.Prelude.{◌≡◌};
 ghost use Rattle.allocation.specs.AuctionInvariant.{from_to};
 
-// A size that an order or a response may have.
+/// Whether an order or a response may have this size: 1 to 100,000 contracts.
 pub fn is_size(size: u32) -> bool
     ensures { result ≡ from_to 1 100000 size }
 {
     (1..=100_000).contains(&size)
 }
 
-// The number of a member.
+/// Whether this is the number of a member: 1 to 16.
 pub fn is_member(member: u8) -> bool
     ensures { result ≡ from_to 1 16 member }
 {
     (1..=16).contains(&member)
 }
 
-// The number that a member gives one of its own responses.
-pub fn is_own_number(own: u8) -> bool
-    ensures { result ≡ from_to 1 4 own }
+/// Whether a member may give one of its responses this number: 1 to 4.
+pub fn is_own_number(own_number: u8) -> bool
+    ensures { result ≡ from_to 1 4 own_number }
 {
-    (1..=4).contains(&own)
+    (1..=4).contains(&own_number)
 }

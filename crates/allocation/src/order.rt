@@ -7,11 +7,12 @@ ghost use Rattle.allocation.specs.Levels.{contra_level};
 use market::side::Side;
 use std::fmt;
 
-// A single stop is one price at which the contra firm takes the order; an auto-match limit is the price from which it
-// matches what others offer.
+/// What kind of guarantee the contra firm gives.
 #[derive(Clone, Copy, PartialEq, Eq, Debug)]
 pub enum GuaranteeKind {
+    /// One price at which the contra firm takes the order.
     SingleStop,
+    /// The price from which the contra firm matches what others offer.
     AutoMatchLimit,
 }
 
@@ -28,33 +29,43 @@ impl fmt::Display for GuaranteeKind {
     }
 }
 
+/// The contra firm's guarantee.
 #[derive(Clone, Copy)]
 pub struct Guarantee {
+    /// Single stop or auto-match limit.
     pub kind: GuaranteeKind,
+    /// The stop, or the limit, in cents; in an auction it is turned.
     pub price: i64,
 }
 
-// The order with its guarantee. In an auction the limit and the guarantee's price are turned.
+/// The order with its guarantee. In an auction the limit and the guarantee's price are turned.
 #[derive(Clone, Copy)]
 pub struct PairedOrder {
+    /// Whether the order buys or sells.
     pub side: Side,
+    /// Contracts.
     pub size: u32,
+    /// The worst price at which the order may trade, in cents.
     pub limit: i64,
+    /// The contra firm's guarantee.
     pub guarantee: Guarantee,
 }
 
-// What the contra's part at each level goes by: its guarantee as stored and the initiating price, both turned, and its
-// guaranteed share in contracts.
+/// What the contra's part at each level goes by.
 #[derive(Clone, Copy)]
 pub struct ContraTerms {
+    /// The guarantee as stored, with its price turned.
     pub guarantee: Guarantee,
+    /// The initiating price, turned, in cents.
     pub initiating: i64,
+    /// The contra's guaranteed share, in contracts.
     pub guaranteed: u32,
 }
 
 impl ContraTerms {
-    // The contra's own price.
-    pub(crate) fn own_price(&self) -> i64
+    // The price of the level that is the contra's: its stop or, under an auto-match limit, the initiating
+    // price.
+    pub(crate) fn contra_price(&self) -> i64
         ensures { result ≡ contra_level self.now.guarantee.kind self.now }
     {
         match self.guarantee.kind {

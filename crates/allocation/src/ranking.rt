@@ -1,4 +1,4 @@
-// A ranking: which of two responses is ahead, from member, stored size and arrival number alone; and the two that are built.
+// A ranking: which of two responses is ahead; and the two that are built.
 ghost use Rattle.std.specs.Prelude.{◌≡◌, Bool, true, not, ◌≢◌};
 ghost use Rattle.std.proofs.Common.{rules};
 ghost use Rattle.allocation.specs.declared.response.Key.{Key};
@@ -6,9 +6,11 @@ ghost use Rattle.allocation.specs.Ranking.{earlier, larger};
 
 use crate::response::Key;
 
+/// A ranking: which of two responses is ahead, from member, stored size and arrival number alone.
 pub trait Ranking {
     ghost ahead: { Self → Key → Key → Bool };
 
+    /// Whether the response of the first key is ahead of that of the second.
     fn is_ahead(&self, x: Key, y: Key) -> bool
         ensures { result ≡ ahead self.now x y };
 
@@ -19,7 +21,7 @@ pub trait Ranking {
     ghost carries_on: { (s : Self) (x y z : Key) → ahead s x y ≡ true → ahead s y z ≡ true → ahead s x z ≡ true };
 }
 
-// The earlier arrival is ahead.
+/// The earlier arrival is ahead.
 #[derive(Clone, Copy)]
 pub struct EarlierArrival;
 
@@ -37,7 +39,7 @@ impl Ranking for EarlierArrival {
     }
 }
 
-// The larger stored size is ahead, and of two of one size the earlier arrival.
+/// The larger stored size is ahead, and of two of one size the earlier arrival.
 #[derive(Clone, Copy)]
 pub struct LargerSize;
 

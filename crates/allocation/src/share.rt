@@ -27,8 +27,8 @@ struct Deal<'a> {
     ghost within: { contracts ≤ asked },
 }
 
-// Side and rows are handed on side by side, here and at levels: a struct would have to hold the rows as a `&mut` and lend parts
-// out of it, of which no proof is made.
+// Side and rows are handed on side by side, here and at levels: a struct would have to hold the rows as a
+// `&mut` and lend parts out of it, of which no proof is made.
 //
 // The row of a response that got so many contracts.
 fn row_of(side: Side, response: &Response, filled: u32) -> FillRow
@@ -39,7 +39,7 @@ fn row_of(side: Side, response: &Response, filled: u32) -> FillRow
     FillRow {
         price: side.turn(response.price),
         member: response.member,
-        own: response.own,
+        own_number: response.own_number,
         class: response.class,
         kind: response.kind,
         filled,
@@ -72,8 +72,8 @@ impl<'a> Standing<'a> {
             .sum()
     }
 
-    // Shares `k` contracts among the responses and writes their rows. Where `k` is enough for all, each part is the whole
-    // size.
+    // Shares `k` contracts among the responses and writes their rows. Where `k` is enough for all, each part
+    // is the whole size.
     pub(crate) fn share(&self, side: Side, k: u64, rows: &mut [FillRow])
         requires { length rows.old ≡ length self.now.responses.now }
         ensures { rows.new ≡ shared_rows side k self.now.responses.now }

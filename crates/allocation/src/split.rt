@@ -1,15 +1,17 @@
 // How the contracts that are left are split at one level among customers, contra and others.
 ghost use Rattle.std.specs.Prelude.{◌≡◌, ◌+◌, ◌-◌, ◌≤◌};
-ghost use Rattle.allocation.specs.Split.{guaranteed, others_share, matched, clean_up, nothing_trades, stop_rest, match_between, match_rest, rest_by, split, taken};
+ghost use Rattle.allocation.specs.Split.{guaranteed_share, others_share, whole_match, clean_up, nothing_trades, stop_rest, match_between, match_rest, rest_by, split, total_taken};
 
 use crate::order::{ContraTerms, GuaranteeKind};
 use std::cmp::Ordering;
 
-// The contracts of the order that are left at a level, and the contra's so far. That both are 100,000 at most stands in clauses:
-// the definitions build this record, which they could not with an invariant in it.
+/// How far an order is shared out at a level. That both are 100,000 at most stands in clauses: the
+/// definitions build this record, which they could not with an invariant in it.
 #[derive(Clone, Copy)]
 pub struct Progress {
+    /// The contracts of the order that are left.
     pub left: u64,
+    /// The contracts that the contra has so far.
     pub so_far: u64,
 }
 
@@ -22,33 +24,40 @@ pub(crate) struct Asked {
     ghost few_others: { others ≤ 6400000 },
 }
 
-// What each gets at a level.
+/// What each gets at a level, in contracts.
 #[derive(Clone, Copy)]
 pub struct Split {
+    /// All customers together.
     pub customers: u64,
+    /// The contra.
     pub contra: u64,
+    /// All others together.
     pub others: u64,
 }
 
-// What the contra and the others get, once the customers have theirs. That this is no more than is left stands in the
-// clauses of each function: it is a fact of the rest and of what was left, which the rest does not hold.
+/// What the contra and the others get, once the customers have theirs, in contracts. That this is no more
+/// than is left stands in the clauses of each function: it is a fact of the rest and of what was left, which
+/// the rest does not hold.
 #[derive(Clone, Copy)]
 pub struct Rest {
+    /// The contra.
     pub contra: u64,
+    /// All others together.
     pub others: u64,
 }
 
-// The contra's guaranteed share: 40% of the order rounded down, 50% with just one response standing, and at least 1.
+// The contra's guaranteed share: 40% of the order rounded down, 50% with just one response standing, and at
+// least 1.
 pub(crate) fn guaranteed_share(size: u32, standing: usize) -> u32
     requires { size ≤ 100000 }
-    ensures value { result ≡ guaranteed size standing }
+    ensures value { result ≡ guaranteed_share size standing }
 {
     let percent = if standing == 1 { 50 } else { 40 };
     (size * percent / 100).max(1)
 }
 
-// What is left and what the others ask for: two numbers, since a struct of them would be made at each call and taken apart in
-// the next line.
+// What is left and what the others ask for: two numbers, since a struct of them would be made at each call
+// and taken apart in the next line.
 fn share_others(left: u64, asked: u64) -> Rest
     ensures value { result ≡ others_share left asked }
     ensures within { result.contra + result.others ≤ left }
@@ -75,9 +84,9 @@ fn clean(left: u64, part: u64, asked: u64) -> Rest
 impl Progress {
     // Behind a level that was split so.
     pub(crate) fn past(self, split: &Split) -> Progress
-        requires within { taken split.now ≤ self.left }
+        requires within { total_taken split.now ≤ self.left }
         requires most { self.left + self.so_far ≤ 100000 }
-        ensures left { result.left ≡ self.left - taken split.now }
+        ensures left { result.left ≡ self.left - total_taken split.now }
         ensures so_far { result.so_far ≡ self.so_far + split.now.contra }
     {
         Progress {
@@ -138,7 +147,7 @@ impl ContraTerms {
     // The split at a level of the contracts that are left, by the sizes that stand there.
     pub(crate) fn split(&self, price: i64, progress: Progress, asked: Asked) -> Split
         ensures value { result ≡ split self.now price progress.left progress.so_far asked.customers asked.others }
-        ensures within { taken result ≤ progress.left }
+        ensures within { total_taken result ≤ progress.left }
     {
         let customers = progress.left.min(asked.customers);
         let behind = Progress {

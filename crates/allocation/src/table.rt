@@ -1,84 +1,82 @@
 // The responses that stand in an auction: at most 64, since 16 members have 4 own numbers each.
-ghost use Rattle.std.specs.Prelude.{◌≡◌, ◌<◌, ◌≤◌, [], ◌∷◌, ◌++◌, length, IfSome, nat_lt};
+ghost use Rattle.std.specs.Prelude.{◌≡◌, ◌<◌, ◌≤◌, true, not, [], ◌∷◌, ◌++◌, length, is_some, Some, nat_lt};
+ghost use Rattle.allocation.specs.Table.{standing, index_of, own_response, change_at, without_index};
 
 use crate::response::{NewTerms, Response, ResponseId};
+use arrayvec::ArrayVec;
 
-// Fixed memory, and no heap: 64 rows, and how many of them stand.
-#[derive(Clone, Copy)]
+// Fixed memory, and no heap.
+#[derive(Drop)]
 pub struct ResponseTable {
-    pub(crate) rows: [Response; 64],
-    pub(crate) len: usize,
-    ghost few: { len ≤ 64 },
-    ghost places: { length rows ≡ 64 },
+    pub(crate) responses: ArrayVec<Response, 64>,
 }
 
 impl ResponseTable {
-    ghost use Rattle.allocation.specs.Table.{standing, place_of, own_response, rewritten, without_place};
-
     // A table where no response stands.
     pub(crate) fn empty() -> ResponseTable
         ensures { standing result ≡ [] }
     {
         ResponseTable {
-            rows: [Response::BLANK; 64],
-            len: 0,
+            responses: ArrayVec::new(),
         }
     }
 
     // The responses that stand, in the order in which they were stored.
     pub(crate) fn standing(&self) -> &[Response]
-        ensures { result.now ≡ standing self.now }
+        ensures value { result.now ≡ standing self.now }
+        ensures few { length result.now ≤ 64 }
     {
-        &self.rows[..self.len]
+        self.responses.as_slice()
     }
 
-    // Fewer responses stand than there are places.
-    pub(crate) fn has_place(&self) -> bool
-        ensures { result ≡ nat_lt (length (standing self.now)) 64 }
+    // No more responses can stand.
+    pub(crate) fn is_full(&self) -> bool
+        ensures { result ≡ not (nat_lt (length (standing self.now)) 64) }
     {
-        self.len < self.rows.len()
+        self.responses.is_full()
     }
 
     // Stores one more response behind those that stand.
     pub(crate) fn push(&mut self, response: Response)
-        requires { self.old.len < 64 }
+        requires { length (standing self.old) < 64 }
         ensures { standing self.new ≡ standing self.old ++ response ∷ [] }
     {
-        self.rows[self.len] = response;
-        self.len += 1;
+        self.responses.push(response);
     }
 
-    // The place of the first response of this member with this own number.
-    pub(crate) fn find(&self, of: ResponseId) -> Option<usize>
-        ensures value { result ≡ place_of of.member of.own (standing self.now) }
-        ensures below { IfSome result (λ i. i < length (standing self.now)) }
+    // The index of the response of this member with this own number, which stands.
+    pub(crate) fn index_of(&self, of: ResponseId) -> usize
+        requires { is_some (own_response of.member of.own_number (standing self.now)) ≡ true }
+        ensures value { index_of of.member of.own_number (standing self.now) ≡ Some result }
+        ensures below { result < length (standing self.now) }
     {
-        self.standing().iter().position(|row| row.id() == of)
+        self.standing()
+            .iter()
+            .position(|row| row.id() == of)
+            .unwrap()
     }
 
     // The standing response of this member with this own number, if there is one.
     pub(crate) fn own_response(&self, of: ResponseId) -> Option<Response>
-        ensures { result ≡ own_response of.member of.own (standing self.now) }
+        ensures { result ≡ own_response of.member of.own_number (standing self.now) }
     {
         self.standing().iter().find(|row| row.id() == of).copied()
     }
 
-    // Gives the response at this place other terms, and no other response.
-    #[tactic(auto, using(crate::proofs::Places::rewrite_front))]
-    pub(crate) fn rewrite(&mut self, at: usize, to: NewTerms)
-        requires { at < self.old.len }
-        ensures { standing self.new ≡ rewritten at to.size to.price to.arrival (standing self.old) }
+    // Gives the response at this index other terms, and no other response.
+    pub(crate) fn rewrite(&mut self, index: usize, to: NewTerms)
+        requires { index < length (standing self.old) }
+        ensures { standing self.new ≡ change_at index to.size to.price to.arrival (standing self.old) }
     {
-        self.rows[at].restore(to);
+        let row = &mut self.responses[index];
+        row.restore(to);
     }
 
-    // Removes the response at this place; each one behind it comes one place forward.
-    #[tactic(auto, using(crate::proofs::Places::closed_up))]
-    pub(crate) fn remove(&mut self, at: usize)
-        requires { at < self.old.len }
-        ensures { standing self.new ≡ without_place at (standing self.old) }
+    // Removes the response at this index; each one behind it comes one forward.
+    pub(crate) fn remove(&mut self, index: usize)
+        requires { index < length (standing self.old) }
+        ensures { standing self.new ≡ without_index index (standing self.old) }
     {
-        self.rows.copy_within(at + 1..self.len, at);
-        self.len -= 1;
+        self.responses.remove(index);
     }
 }

@@ -6,13 +6,16 @@ use crate::limits::is_size;
 use crate::order::{GuaranteeKind, PairedOrder};
 use market::limits::is_showable;
 
-// What an auction is made of; prices are turned. An auction has these three as fields of its own, by which its invariants and
-// the definitions name them.
+/// What an auction is made of. An auction has these three as fields of its own, by which its invariants and
+/// the definitions name them.
 #[derive(Clone, Copy)]
-pub(crate) struct AuctionTerms {
-    pub(crate) order: PairedOrder,
-    pub(crate) floor: i64,
-    pub(crate) initiating: i64,
+pub struct AuctionTerms {
+    /// The order with its guarantee; its limit and its guarantee's price are turned.
+    pub order: PairedOrder,
+    /// The price where the range begins, turned, in cents.
+    pub floor: i64,
+    /// The price where the range ends, turned, in cents.
+    pub initiating: i64,
 }
 
 impl AuctionTerms {
@@ -37,8 +40,10 @@ impl AuctionTerms {
         self.order.guarantee.price <= self.initiating && self.stop_holds()
     }
 
-    // An auction can have these terms.
-    pub(crate) fn hold(&self) -> bool
+    /// Whether an auction can have these terms: the order's size is 1 to 100,000, floor and initiating price
+    /// are within 50,000,000 cents and in order, and the guarantee is not above the initiating price, nor, as
+    /// a single stop, below the floor.
+    pub fn hold(&self) -> bool
         ensures { result ≡ terms_ok self.now.order self.now.floor self.now.initiating }
     {
         is_size(self.order.size) && self.range_holds() && self.guarantee_holds()

@@ -5,6 +5,7 @@ use allocation::order::{Guarantee, GuaranteeKind, PairedOrder};
 use allocation::ranking::{EarlierArrival, LargerSize, Ranking};
 use allocation::response::Class::{self, Customer, Other};
 use allocation::response::{Kind, NewTerms, Response, ResponseId};
+use allocation::terms::AuctionTerms;
 use market::side::Side::{self, Buy, Sell};
 use std::io;
 
@@ -21,7 +22,7 @@ fn order(side: Side, size: u32, kind: GuaranteeKind, price: i64) -> PairedOrder 
 fn first_of(member: u8, class: Class, size: u32, price: i64) -> Response {
     Response {
         member,
-        own: 1,
+        own_number: 1,
         kind: Kind::Sealed,
         class,
         size,
@@ -30,14 +31,42 @@ fn first_of(member: u8, class: Class, size: u32, price: i64) -> Response {
     }
 }
 
+// Stores a response, if it may be stored.
+fn store(auction: &mut Auction, response: Response) -> bool {
+    let may = auction.may_store(&response);
+    if may {
+        auction.store(response);
+    }
+    may
+}
+
+// Changes a response, if it may be changed so.
+fn change(auction: &mut Auction, of: ResponseId, to: NewTerms) -> bool {
+    let may = auction.may_change(of, to);
+    if may {
+        auction.change(of, to);
+    }
+    may
+}
+
+// Withdraws a response, if it stands.
+fn withdraw(auction: &mut Auction, of: ResponseId) -> bool {
+    let stands = auction.response_of(of).is_some();
+    if stands {
+        auction.withdraw(of);
+    }
+    stands
+}
+
 // Whether all may stand; each is stored, up to one that may not. Its place among them, from 1, is its arrival number.
 // The demo has one alike: no layer holds what only programs call, and neither program rests on the other.
 fn store_all(auction: &mut Auction, told: &[Response]) -> bool {
     (1..=u32::MAX).zip(told).all(|(arrival, response)| {
-        auction.store(Response {
+        let response = Response {
             arrival,
             ..*response
-        })
+        };
+        store(auction, response)
     })
 }
 
@@ -82,11 +111,24 @@ fn print_fills<R: Ranking>(rt: &HostRuntime, ranking: &R, auction: &Auction) -> 
     }
 }
 
+// An auction of the order in this range of turned prices, if it can have it.
+fn auction_in(order: PairedOrder, floor: i64, initiating: i64) -> Option<Auction> {
+    let terms = AuctionTerms {
+        order,
+        floor,
+        initiating,
+    };
+    if !terms.hold() {
+        return None;
+    }
+    Some(Auction::new(terms))
+}
+
 // An auction of the order in the range of prices from 294 to 304, which for a sell order are turned.
 fn auction_of(order: PairedOrder) -> Option<Auction> {
     match order.side {
-        Buy => Auction::new(order, 294, 304),
-        Sell => Auction::new(order, -304, -294),
+        Buy => auction_in(order, 294, 304),
+        Sell => auction_in(order, -304, -294),
     }
 }
 
@@ -157,7 +199,7 @@ fn beyond_stop(rt: &HostRuntime) -> io::Result<()> {
 fn one_firm(rt: &HostRuntime) -> io::Result<()> {
     let first = first_of(2, Other, 60, 298);
     let second = Response {
-        own: 2,
+        own_number: 2,
         ..first_of(2, Other, 10, 298)
     };
     let two = Case {
@@ -231,7 +273,7 @@ fn edges(rt: &HostRuntime) -> io::Result<()> {
 fn one_of_64(i: u8) -> Response {
     Response {
         member: i / 4 + 1,
-        own: i % 4 + 1,
+        own_number: i % 4 + 1,
         kind: Kind::Plain,
         class: Other,
         size: 1,
@@ -242,14 +284,15 @@ fn one_of_64(i: u8) -> Response {
 
 // 64 responses at 64 prices below the initiating price, each matched by the contra, which then cleans up.
 fn full_table() -> Option<Auction> {
-    let mut auction = Auction::new(
+    let mut auction = auction_in(
         order(Buy, 100_000, GuaranteeKind::AutoMatchLimit, 200),
         200,
         304,
     )?;
-    (0..64)
-        .all(|i| auction.store(one_of_64(i)))
-        .then_some(auction)
+    if !(0..64).all(|i| store(&mut auction, one_of_64(i))) {
+        return None;
+    }
+    Some(auction)
 }
 
 // The contracts that all these rows are filled.
@@ -286,7 +329,10 @@ fn lengths(rt: &HostRuntime) -> io::Result<()> {
 
 // The response that a member numbered 1.
 fn id_of(member: u8) -> ResponseId {
-    ResponseId { member, own: 1 }
+    ResponseId {
+        member,
+        own_number: 1,
+    }
 }
 
 fn terms(size: u32, price: i64, arrival: u32) -> NewTerms {
@@ -306,12 +352,12 @@ fn changes(rt: &HostRuntime) -> io::Result<()> {
     };
     let three_alike = [2, 3, 4].map(|member| first_of(member, Other, 20, 297));
     let stored = store_all(&mut auction, &three_alike);
-    let changed = auction.change(id_of(2), terms(21, 297, 4));
-    let missing = auction.change(id_of(5), terms(21, 297, 5));
-    let above = auction.change(id_of(3), terms(20, 305, 6));
-    let again = auction.change(id_of(3), terms(20, 297, 4));
-    let withdrawn = auction.withdraw(id_of(4));
-    let twice = auction.withdraw(id_of(4));
+    let changed = change(&mut auction, id_of(2), terms(21, 297, 4));
+    let missing = change(&mut auction, id_of(5), terms(21, 297, 5));
+    let above = change(&mut auction, id_of(3), terms(20, 305, 6));
+    let again = change(&mut auction, id_of(3), terms(20, 297, 4));
+    let withdrawn = withdraw(&mut auction, id_of(4));
+    let twice = withdraw(&mut auction, id_of(4));
     println!(rt;
         "  stored {stored}, changed {changed} {missing} {above} {again}, withdrawn {withdrawn} {twice}"
     )?;

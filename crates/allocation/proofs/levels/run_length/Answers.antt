@@ -1,4 +1,4 @@
--- The count of the front that stands at the place is the length of the run that the definitions name.
+-- The count of the front that stands there is the length of the run that the definitions name.
 use Rattle.std.proofs.Common.{◌≡◌, cond, List, [], ◌∷◌, ℤ, sym, refl, ap, ◌∙◌, arith, rules}
 use Rattle.std.specs.List.{prefix_len}
 use Rattle.allocation.specs.declared.response.Class.{Class}
@@ -21,6 +21,6 @@ leading_is price class (x ∷ xs) =
 pub returns-clause-value : goal.returns-clause-value
 returns-clause-value c =
     let xs = c.args.responses.now in
-    let p = c.args.place.now in
+    let p = c.args.at.now in
     count_from_yields_List c.take_while.result c.count.result c.count.ensures.ran (YieldsList-from_take_while _ (stands_at p.price p.class) (YieldsList-at c.take_while.ensures.source (YieldsList-from_slice xs cc)) c.take_while.ensures.closure c.take_while.ensures.done (λ x b q k. search (rules, tests)))
     ∙ length-prefix_len (stands_at p.price p.class) xs ∙ sym (leading_is p.price p.class xs)

@@ -4,7 +4,7 @@ use Rattle.std.proofs.lemmas.Iterator.{YieldsList-from_slice}
 use Rattle.std.proofs.lemmas.Iterator.Search.{all_from_yields_List}
 use Rattle.allocation.specs.declared.response.Response.{Response}
 use Rattle.allocation.specs.Table.{standing}
-use Rattle.allocation.proofs.Places.{all_is}
+use Rattle.allocation.proofs.Indexes.{all_is}
 use Rattle.allocation.proofs.auction.Auction.is_arrival_free.Goals as goal
 
 pub returns : goal.returns

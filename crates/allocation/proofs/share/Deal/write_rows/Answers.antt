@@ -2,7 +2,7 @@
 -- sharing; and no size is above all that is asked for.
 use Rattle.std.proofs.Common.{◌≤◌, ◌-◌, ap, ◌∙◌, arith}
 use Rattle.allocation.specs.Fill.{class_rows}
-use Rattle.allocation.specs.Share.{sizes, total, parts_total, dealt}
+use Rattle.allocation.specs.Share.{sizes, total, parts_total, deal}
 use Rattle.allocation.proofs.ShareFacts.{parts_within, none_odd, size_within, dealt_within}
 use Rattle.allocation.proofs.Writes.{no_response}
 use Rattle.allocation.proofs.share.Deal.write_rows.Goals as goal
@@ -22,7 +22,7 @@ loop-i-init c =
     let ss = sizes xs in
     let k = d.contracts in
     let within : k ≤ total ss = omega (arith, d.within, d.all) in (
-      ap (λ n. class_rows c.args.side xs (dealt k d.asked (k - n) ss)) c.whole_parts.ensures ∙ ap (λ t. class_rows c.args.side xs (dealt k t (k - parts_total k t ss) ss)) d.all ∙ ap (class_rows c.args.side xs) (dealt_within k xs d.among.sound.1 within),
+      ap (λ n. class_rows c.args.side xs (deal k d.asked (k - n) ss)) c.whole_parts.ensures ∙ ap (λ t. class_rows c.args.side xs (deal k t (k - parts_total k t ss) ss)) d.all ∙ ap (class_rows c.args.side xs) (dealt_within k xs d.among.sound.1 within),
       λ all. let none = none_odd xs d.among.sound.1 in let same = ap (λ n. parts_total n d.asked ss) (all ∙ d.all) ∙ ap (λ t. parts_total (total ss) t ss) d.all in omega (arith, c.whole_parts.ensures, d.all),
     )
 

@@ -20,5 +20,5 @@ returns-clause-rows c =
     let z = to_z-of_z w64 price c.ranges.price in
     let level : planned_level plan ≡ walk_level price w xs = c.at_front-plan.ensures.level ∙ ap (front_level (to_z w64 (of_z w64 price))) behind ∙ ap (λ p. front_level p (drop w.next xs)) z in
     let split : plan.split ≡ walk_split t price w xs = c.at_front-plan.ensures.split ∙ ap (λ ys. split_at t (front_level (to_z w64 (of_z w64 price)) ys) w.progress.left w.progress.so_far) behind ∙ ap (λ p. walk_split t p w xs) z in
-    mid_written w.at c.row_count.result rows c.write_rows.new.rows
-    ∙ ap (λ ys. take w.at rows ++ (ys ++ drop (w.at + c.row_count.result) rows)) (c.write_rows.ensures ∙ ap (λ l. level_rows c.args.self.now.side l plan.split) level ∙ ap (level_rows c.args.self.now.side (walk_level price w xs)) split)
+    mid_written w.row c.row_count.result rows c.write_rows.new.rows
+    ∙ ap (λ ys. take w.row rows ++ (ys ++ drop (w.row + c.row_count.result) rows)) (c.write_rows.ensures ∙ ap (λ l. level_rows c.args.self.now.side l plan.split) level ∙ ap (level_rows c.args.self.now.side (walk_level price w xs)) split)

@@ -10,7 +10,10 @@ loop-price-preserved c =
     let fits : SFits w64 price = search rules in
     let next = sym c.in-Some.ensures ∙ ap Some (sym (to_z-of_z w64 price fits)) in
     let arranged = c.args.self.now.arranged in
-    steps_on c.args.self.now.side c.args.self.now.terms arranged.responses.now c.args.rows.now _ c.loop-price.walk c.past_level-walk.result _ c.loop-price.rows c.past_level-walk.new.rows c.loop-price.invariant next arranged.sound.0 (omega (arith, c.requires.rows)) c.past_level-walk.ensures.walk c.past_level-walk.ensures.within.0 c.past_level-walk.ensures.within.1 c.past_level-walk.ensures.rows
+    let past = c.past_level-walk.ensures in
+    steps_on c.args.self.now.side c.args.self.now.terms arranged.responses.now c.args.rows.now _ c.loop-price.walk c.past_level-walk.result _ c.loop-price.rows c.past_level-walk.new.rows c.loop-price.invariant
+    (record { next = next; walk = past.walk; inside = past.within.0; few = past.within.1; rows_are = past.rows })
+    arranged.sound.0 (omega (arith, c.requires.rows))
 
 pub returns : goal.returns
 returns c =
