@@ -1,18 +1,19 @@
 -- A request that has passed its checks can be carried out: the auction stores the response, changes it, and can be told of
 -- it; and a floor that brings no end can be had.
-use Rattle.std.proofs.Common.{◌≡◌, ℕ, ◌+◌, Bool, true, false, cond, not, ◌&&◌, leb, List, [], ◌∷◌, ◌++◌, ℤ, Some, None, Option, ap, ◌∙◌, subst, arith}
+use Rattle.std.proofs.Common.{◌≡◌, ℕ, ◌+◌, Bool, true, false, cond, not, ◌&&◌, leb, List, [], ◌∷◌, ℤ, is_some, Some, None, Option, ap, ◌∙◌, subst, arith}
 use borrow.Author.Differences.{ints}
 use lib.Signed.{le_z, lt_z}
 use Rattle.std.proofs.lemmas.Bool.Decides.{nat_tests}
 use Rattle.market.specs.Limits.{showable}
-use Rattle.allocation.proofs.ByOwnNumber.{own_stored, own_rewritten}
+use Rattle.allocation.proofs.ByOwnNumber.{own_stored}
 use Rattle.allocation.proofs.FillProved.{Terms, terms_hold}
 use Rattle.allocation.specs.declared.auction.Auction.{Auction}
 use Rattle.allocation.specs.declared.order.GuaranteeKind.{GuaranteeKind}
 use Rattle.allocation.specs.declared.order.GuaranteeKind.TheVariants.{SingleStop, AutoMatchLimit}
 use Rattle.allocation.specs.declared.response.NewTerms.{NewTerms}
 use Rattle.allocation.specs.declared.response.Response.{Response}
-use Rattle.allocation.specs.Auction.{AuctionValues, auction_values, with_stood, may_store, stored, changed, may_move_floor}
+use Rattle.allocation.specs.declared.response.ResponseId.{ResponseId}
+use Rattle.allocation.specs.Auction.{AuctionValues, auction_values, may_store, after_store, may_change, after_change, may_move_floor}
 use Rattle.allocation.specs.AuctionInvariant.{from_to, range_ok, guarantee_ok, stop_ok, terms_ok, stored_ok, response_ok, each}
 use Rattle.allocation.specs.Table.{is_of, own_response, any_below}
 use Rattle.room.specs.declared.open_auction.OpenAuction.{OpenAuction}
@@ -24,7 +25,7 @@ use Rattle.room.specs.State.{OpenValues}
 use Rattle.room.specs.declared.checked.CheckedChange.{CheckedChange}
 use Rattle.room.specs.declared.checked.CheckedResponse.{CheckedResponse}
 use Rattle.room.specs.declared.limits.Size.{Size}
-use Rattle.room.specs.Checked.{response_given, change_given}
+use Rattle.room.specs.Checked.{response_request, change_request}
 use Rattle.room.specs.Storing.{next_terms, ResponsePasses, ChangePasses}
 use Rattle.room.specs.Ticks.{above_stop, tick_cause}
 use Rattle.room.specs.Counts.{all_arrived}
@@ -47,55 +48,61 @@ may_stand a size price not_above =
     stored_may_stand v.order.size v.floor v.initiating size.contracts (turned_in (open_values a) price)
     (sized a.auction) (terms_of a.auction).in_order (left_true (leb 1 size.contracts) _ size.in_limits) not_above
 
--- a response is stored
-stores : (a : OpenAuction) (x : CheckedResponse) → ResponsePasses (open_values a) (response_given x)
-    → stored (auction_values a.auction) (as_stored (open_values a) (response_given x)) ≡ with_stood (auction_values a.auction) ((auction_values a.auction).stood ++ as_stored (open_values a) (response_given x) ∷ [])
-stores a x ok =
+-- a response that passes may be stored
+may_store_stored : (a : OpenAuction) (x : CheckedResponse) → ResponsePasses (open_values a) (response_request x) → may_store (auction_values a.auction) (as_stored (open_values a) (response_request x)) ≡ true
+may_store_stored a x ok =
     let v = auction_values a.auction in
-    let y = as_stored (open_values a) (response_given x) in
+    let y = as_stored (open_values a) (response_request x) in
     let stands : response_ok v.order.size v.floor v.initiating y ≡ true =
-    both_true (from_to 1 16 y.member) _ x.of.member.in_limits (both_true (from_to 1 4 y.own) _ x.of.own.in_limits (may_stand a x.size x.price.cents ok.terms.not_above)) in
-    let may : may_store v y ≡ true = own_stored a.auction y stands (next_is_free a.arrivals v.stood a.arrived) ok.not_in_use in
-    ap (λ (b : Bool). cond b (with_stood v (v.stood ++ y ∷ [])) v) may
+    both_true (from_to 1 16 y.member) _ x.of.member.in_limits (both_true (from_to 1 4 y.own_number) _ x.of.own_number.in_limits (may_stand a x.size x.price.cents ok.terms.not_above)) in
+    own_stored a.auction y stands (next_is_free a.arrivals v.stood a.arrived) ok.not_in_use
 
--- a change is made
-changes : (a : OpenAuction) (x : CheckedChange) → ChangePasses (open_values a) (change_given x)
-    → changed (auction_values a.auction) x.of.member.number x.of.own.number (stored_size (open_values a) x.size.contracts) (stored_price (open_values a) x.price.cents) (a.arrivals + 1) ≡ (with_change (open_values a) (change_given x)).values
-changes a x ok =
+-- a change that passes may be made
+may_change_stored : (a : OpenAuction) (x : CheckedChange) → ChangePasses (open_values a) (change_request x)
+    → may_change (auction_values a.auction) (record { member = x.of.member.number; own_number = x.of.own_number.number }) (next_terms (open_values a) x.price.cents x.size.contracts) ≡ true
+may_change_stored a x ok =
     let v = auction_values a.auction in
-    own_rewritten v x.of.member.number x.of.own.number (stored_size (open_values a) x.size.contracts) (stored_price (open_values a) x.price.cents) (a.arrivals + 1)
-    ok.stands (may_stand a x.size x.price.cents ok.terms.not_above) (next_is_free a.arrivals v.stood a.arrived)
+    both_true (is_some (own_response x.of.member.number x.of.own_number.number v.stood)) _ ok.stands
+    (both_true (stored_ok v.order.size v.floor v.initiating _ _) _ (may_stand a x.size x.price.cents ok.terms.not_above) (next_is_free a.arrivals v.stood a.arrived))
 
 -- The open auction with other values.
 abbrev pub with_values : OpenValues → AuctionValues → OpenValues
-with_values a v = record { number = a.number; deadline = a.deadline; values = v; arrivals = a.arrivals; used = a.used }
+with_values a v = record a { values = v }
 
-stored_same : (v v' : AuctionValues) (x : ResponseRequest) (n n' : ℕ) (z z' : ℤ) (k k' : ℕ) → v ≡ v' → n ≡ n' → z ≡ z' → k ≡ k'
-    → stored v (record { member = x.member; own = x.own; kind = x.kind; class = x.class; size = n; price = z; arrival = k }) ≡ stored v' (record { member = x.member; own = x.own; kind = x.kind; class = x.class; size = n'; price = z'; arrival = k' })
-stored_same v v' x n n' z z' k k' a b c d i = stored (a i) (record { member = x.member; own = x.own; kind = x.kind; class = x.class; size = b i; price = c i; arrival = d i })
+-- what is known of one more response or change that was counted: the auctions before and after, and its terms as they are stored
+pub record Counted (before after : OpenAuction) (member : ℕ) (price : ℤ) (size : ℕ) (to : NewTerms) : Type 0 where
+  pub counted : open_values after ≡ with_counted (open_values before) member (auction_values before.auction).stood
+  pub stored : to ≡ next_terms (open_values before) price size
 
-changed_same : (v v' : AuctionValues) (m o : ℕ) (to to' : NewTerms) → v ≡ v' → to ≡ to' → changed v m o to.size to.price to.arrival ≡ changed v' m o to'.size to'.price to'.arrival
-changed_same v v' m o to to' a e i = changed (a i) m o (e i).size (e i).price (e i).arrival
+module _ (a b : OpenAuction) (to : NewTerms) where
+  -- counting leaves the values of the auction
+  values_stay : (member : ℕ) → open_values b ≡ with_counted (open_values a) member (auction_values a.auction).stood → auction_values b.auction ≡ auction_values a.auction
+  values_stay member count = ap (λ (o : OpenValues). o.values) count
 
--- what was counted is stored, or changed
-module _ (a b : OpenAuction) (to : NewTerms) (after : AuctionValues) where
-  pub counted_stores : (x : CheckedResponse) (price : ℤ) → ResponsePasses (open_values a) (response_given x) → open_values b ≡ with_counted (open_values a) x.of.member.number (auction_values a.auction).stood
-      → to ≡ next_terms (open_values a) x.price.cents x.size.contracts → price ≡ to.price
-      → after ≡ stored (auction_values b.auction) (record { member = x.of.member.number; own = x.of.own.number; kind = x.kind; class = x.class; size = to.size; price = price; arrival = to.arrival })
-      → with_values (open_values b) after ≡ with_response (open_values a) (response_given x)
-  counted_stores x price ok count e p is =
-      ap (with_values (open_values b))
-      (is ∙ stored_same _ _ (response_given x) to.size _ price _ to.arrival _ (ap (λ (o : OpenValues). o.values) count) (ap (λ (t : NewTerms). t.size) e) (p ∙ ap (λ (t : NewTerms). t.price) e) (ap (λ (t : NewTerms). t.arrival) e) ∙ stores a x ok)
-      ∙ ap (λ (o : OpenValues). with_values o (with_response (open_values a) (response_given x)).values) count
+  module _ (x : CheckedResponse) (price : ℤ) (known : Counted a b x.of.member.number x.price.cents x.size.contracts to) (same : price ≡ to.price) where
+    -- the response that is handed to the auction
+    abbrev pub next_response : Response
+    next_response = record { member = x.of.member.number; own_number = x.of.own_number.number; kind = x.kind; class = x.class; size = to.size; price = price; arrival = to.arrival }
 
-  pub counted_changes : (x : CheckedChange) → ChangePasses (open_values a) (change_given x) → open_values b ≡ with_counted (open_values a) x.of.member.number (auction_values a.auction).stood
-      → to ≡ next_terms (open_values a) x.price.cents x.size.contracts
-      → after ≡ changed (auction_values b.auction) x.of.member.number x.of.own.number to.size to.price to.arrival
-      → with_values (open_values b) after ≡ with_change (open_values a) (change_given x)
-  counted_changes x ok count e is =
-      ap (with_values (open_values b))
-      (is ∙ changed_same _ _ x.of.member.number x.of.own.number to _ (ap (λ (o : OpenValues). o.values) count) e ∙ changes a x ok)
-      ∙ ap (λ (o : OpenValues). with_values o (with_change (open_values a) (change_given x)).values) count
+    next_is_stored : next_response ≡ as_stored (open_values a) (response_request x)
+    next_is_stored i = record { member = x.of.member.number; own_number = x.of.own_number.number; kind = x.kind; class = x.class; size = (known.stored i).size; price = (same ∙ ap (λ (t : NewTerms). t.price) known.stored) i; arrival = (known.stored i).arrival }
+
+    pub counted_may_store : ResponsePasses (open_values a) (response_request x) → may_store (auction_values b.auction) next_response ≡ true
+    counted_may_store ok = (λ i. may_store (values_stay x.of.member.number known.counted i) (next_is_stored i)) ∙ may_store_stored a x ok
+
+    pub counted_stores : (after : AuctionValues) → after ≡ after_store (auction_values b.auction) next_response → with_values (open_values b) after ≡ with_response (open_values a) (response_request x)
+    counted_stores after is =
+        ap (with_values (open_values b)) (is ∙ (λ i. after_store (values_stay x.of.member.number known.counted i) (next_is_stored i)))
+        ∙ ap (λ (o : OpenValues). with_values o (with_response (open_values a) (response_request x)).values) known.counted
+
+  module _ (x : CheckedChange) (of : ResponseId) (known : Counted a b x.of.member.number x.price.cents x.size.contracts to) (its : of ≡ record { member = x.of.member.number; own_number = x.of.own_number.number }) where
+    pub counted_may_change : ChangePasses (open_values a) (change_request x) → may_change (auction_values b.auction) of to ≡ true
+    counted_may_change ok = (λ i. may_change (values_stay x.of.member.number known.counted i) (its i) (known.stored i)) ∙ may_change_stored a x ok
+
+    pub counted_changes : (after : AuctionValues) → after ≡ after_change (auction_values b.auction) of to → with_values (open_values b) after ≡ with_change (open_values a) (change_request x)
+    counted_changes after is =
+        ap (with_values (open_values b)) (is ∙ (λ i. after_change (values_stay x.of.member.number known.counted i) (its i) (known.stored i)))
+        ∙ ap (λ (o : OpenValues). with_values o (with_change (open_values a) (change_request x)).values) known.counted
 
 -- and all that then stand have arrived
 pub response_arrived : (a : OpenAuction) (x : ResponseRequest) → all_arrived (a.arrivals + 1) (with_response (open_values a) x).values.stood ≡ true
@@ -108,7 +115,7 @@ pub change_arrived : (a : OpenAuction) (x : ChangeRequest) → all_arrived (a.ar
 change_arrived a x =
     let last : leb (a.arrivals + 1) (a.arrivals + 1) ≡ true = grind (arith, nat_tests) in
     let o = open_values a in
-    each_rewritten (λ (y : Response). leb y.arrival (a.arrivals + 1)) x.member x.own (stored_size o x.size) (stored_price o x.price) (a.arrivals + 1) o.values.stood (λ (y : Response) e. last) (arrived_next a.arrivals o.values.stood a.arrived)
+    each_rewritten (λ (y : Response). leb y.arrival (a.arrivals + 1)) x.member x.own_number (stored_size o x.size) (stored_price o x.price) (a.arrivals + 1) o.values.stood (λ (y : Response) e. last) (arrived_next a.arrivals o.values.stood a.arrived)
 
 -- what holds of each response that stands holds of the one that is found
 found_at : (b : Bool) (t : Response → Bool) (x y : Response) (o : Option Response) → t x ≡ true → (o ≡ Some y → t y ≡ true) → cond b (Some x) o ≡ Some y → t y ≡ true

@@ -11,16 +11,16 @@ pub opening_sized : (x : OpeningRequest) → open_checks x ≡ None → leb 1 x.
 opening_sized x h = grind (arith, nat_tests)
 
 -- size, member and own number inside their limits
-pub record TermsInside (size member own : ℕ) : Type 0 where
+pub record TermsInside (size member own_number : ℕ) : Type 0 where
   pub sized : leb 1 size ≡ true
   pub member_inside : from_to 1 16 member ≡ true
-  pub own_inside : from_to 1 4 own ≡ true
+  pub own_inside : from_to 1 4 own_number ≡ true
 
-terms_inside : (time : ℕ) (price : ℤ) (size member own : ℕ) → time_checked time (price_checked price (size_checked size (member_checked member (own_checked own None)))) ≡ None → TermsInside size member own
-terms_inside time price size member own h = record { sized = grind (arith, nat_tests); member_inside = grind (arith, nat_tests); own_inside = grind (arith, nat_tests) }
+terms_inside : (time : ℕ) (price : ℤ) (size member own_number : ℕ) → time_checked time (price_checked price (size_checked size (member_checked member (own_checked own_number None)))) ≡ None → TermsInside size member own_number
+terms_inside time price size member own_number h = record { sized = grind (arith, nat_tests); member_inside = grind (arith, nat_tests); own_inside = grind (arith, nat_tests) }
 
-pub response_inside : (x : ResponseRequest) → respond_checks x ≡ None → TermsInside x.size x.member x.own
-response_inside x h = terms_inside x.time x.price x.size x.member x.own h
+pub response_inside : (x : ResponseRequest) → respond_checks x ≡ None → TermsInside x.size x.member x.own_number
+response_inside x h = terms_inside x.time x.price x.size x.member x.own_number h
 
-pub change_inside : (x : ChangeRequest) → change_checks x ≡ None → TermsInside x.size x.member x.own
-change_inside x h = terms_inside x.time x.price x.size x.member x.own h
+pub change_inside : (x : ChangeRequest) → change_checks x ≡ None → TermsInside x.size x.member x.own_number
+change_inside x h = terms_inside x.time x.price x.size x.member x.own_number h

@@ -6,4 +6,5 @@ pub mod Sound
 pub mod Counting
 mod CarriedOut
 mod NewAuctions
-mod Listed
+mod OneWaits
+mod Collected

@@ -9,16 +9,16 @@ use Rattle.std.specs.Int.{int_max, int_min}
 use Rattle.market.specs.declared.quote.Quote.{Quote}
 use Rattle.market.specs.declared.range.TurnedQuote.{TurnedQuote}
 use Rattle.market.specs.declared.side.Side.{Side}
-use Rattle.market.specs.Range.{RangePrices, permitted, range_from, range_faced, turned_quote}
+use Rattle.market.specs.Range.{RangePrices, permitted_range, range_from, range_faced, turned_quote}
 use Rattle.market.specs.Limits.{in_limits}
-use Rattle.market.specs.Side.{turned}
+use Rattle.market.specs.Side.{turned_price}
 use Rattle.allocation.specs.declared.order.GuaranteeKind.{GuaranteeKind}
 use Rattle.allocation.specs.declared.order.GuaranteeKind.TheVariants.{SingleStop, AutoMatchLimit}
 use Rattle.allocation.specs.declared.order.PairedOrder.{PairedOrder}
 use Rattle.allocation.specs.declared.response.Response.{Response}
 use Rattle.allocation.specs.Auction.{AuctionValues, with_stood, with_floor}
 use Rattle.allocation.specs.AuctionInvariant.{stop_ok, stored_ok, response_ok, each}
-use Rattle.allocation.specs.Table.{is_of, restored, own_changed, without_own, any_below}
+use Rattle.allocation.specs.Table.{is_of, with_terms, own_changed, without_own, any_below}
 use Rattle.room.specs.Openings.{new_values}
 use Rattle.room.specs.Responses.{}
 use Rattle.room.specs.Ticks.{above_stop, ends_for, tick_cause, floor_now}
@@ -44,9 +44,9 @@ faced_ordered side limit None contra r h = ok_err r _ (sym h)
 faced_ordered side limit (Some floor) None r h = ok_err r _ (sym h)
 faced_ordered side limit (Some floor) (Some contra) r h = range_ordered side limit floor contra r h
 
-pub permitted_ordered : (side : Side) (limit : ℤ) (q : Quote) (r : RangePrices) → permitted side limit q ≡ Ok r → le_z r.floor r.initiating ≡ true
+pub permitted_ordered : (side : Side) (limit : ℤ) (q : Quote) (r : RangePrices) → permitted_range side limit q ≡ Ok r → le_z r.floor r.initiating ≡ true
 permitted_ordered side limit q r h =
-    faced_ordered side (turned side limit) (turned_quote side q).floor (turned_quote side q).contra r (cond_ok_else (in_limits (Some limit)) _ _ r h).1
+    faced_ordered side (turned_price side limit) (turned_quote side q).floor (turned_quote side q).contra r (cond_ok_else (in_limits (Some limit)) _ _ r h).1
 
 -- a stored stop is not below the floor
 stop_stored : (k : GuaranteeKind) (floor z : ℤ) → stop_ok k floor (int_max floor z) ≡ true
@@ -57,12 +57,12 @@ most_of_two : (a b c : ℤ) → le_z a c ≡ true → lt_z c b ≡ false → le_
 most_of_two a b c h k = grind (arith, ints, nat_tests)
 
 -- a new auction is sound
-pub new_sound : (o : PairedOrder) (r : RangePrices) → leb 1 o.size ≡ true → le_z r.floor r.initiating ≡ true → lt_z r.initiating (turned o.side o.guarantee.price) ≡ false → Sound (new_values o r)
+pub new_sound : (o : PairedOrder) (r : RangePrices) → leb 1 o.size ≡ true → le_z r.floor r.initiating ≡ true → lt_z r.initiating (turned_price o.side o.guarantee.price) ≡ false → Sound (new_values o r)
 new_sound o r s h k = record {
   sized = s;
   in_order = h;
-  guaranteed_at = most_of_two r.floor (turned o.side o.guarantee.price) r.initiating h k;
-  stop_at = stop_stored o.guarantee.kind r.floor (turned o.side o.guarantee.price);
+  guaranteed_at = most_of_two r.floor (turned_price o.side o.guarantee.price) r.initiating h k;
+  stop_at = stop_stored o.guarantee.kind r.floor (turned_price o.side o.guarantee.price);
   standing = refl;
 }
 
@@ -75,7 +75,7 @@ each_push t [] x h k = both_true (t x) true k refl
 each_push t (y ∷ ys) x h k = both_true (t y) (each t (ys ++ x ∷ [])) (left_true (t y) (each t ys) h) (each_push t ys x (right_true (t y) (each t ys) h) k)
 
 -- a response with another size and price that may stand
-restored_ok : (most : ℕ) (floor initiating : ℤ) (size : ℕ) (z : ℤ) (n : ℕ) (x : Response) → stored_ok most floor initiating size z ≡ true → response_ok most floor initiating x ≡ true → response_ok most floor initiating (restored size z n x) ≡ true
+restored_ok : (most : ℕ) (floor initiating : ℤ) (size : ℕ) (z : ℤ) (n : ℕ) (x : Response) → stored_ok most floor initiating size z ≡ true → response_ok most floor initiating x ≡ true → response_ok most floor initiating (with_terms size z n x) ≡ true
 restored_ok most floor initiating size z n x k h = grind (arith, ints, nat_tests)
 
 changed_at : (b : Bool) (t : Response → Bool) (x y : Response) (xs ys : List Response) → t x ≡ true → t y ≡ true → each t xs ≡ true → each t ys ≡ true → each t (cond b (y ∷ xs) (x ∷ ys)) ≡ true
@@ -83,12 +83,12 @@ changed_at true t x y xs ys a c d e = both_true (t y) (each t xs) c d
 changed_at false t x y xs ys a c d e = both_true (t x) (each t ys) a e
 
 -- what holds of each response holds of each after one was changed, if it holds of that one
-pub each_rewritten : (t : Response → Bool) (m o size : ℕ) (z : ℤ) (n : ℕ) (xs : List Response) → ((x : Response) → t x ≡ true → t (restored size z n x) ≡ true) → each t xs ≡ true → each t (own_changed m o size z n xs) ≡ true
+pub each_rewritten : (t : Response → Bool) (m o size : ℕ) (z : ℤ) (n : ℕ) (xs : List Response) → ((x : Response) → t x ≡ true → t (with_terms size z n x) ≡ true) → each t xs ≡ true → each t (own_changed m o size z n xs) ≡ true
 each_rewritten t m o size z n [] k h = refl
 each_rewritten t m o size z n (x ∷ xs) k h =
     let here = left_true (t x) (each t xs) h in
     let rest = right_true (t x) (each t xs) h in
-    changed_at (is_of m o x) t x (restored size z n x) xs (own_changed m o size z n xs) here (k x here) rest (each_rewritten t m o size z n xs k rest)
+    changed_at (is_of m o x) t x (with_terms size z n x) xs (own_changed m o size z n xs) here (k x here) rest (each_rewritten t m o size z n xs k rest)
 
 pub each_changed : (m o most : ℕ) (floor initiating : ℤ) (size : ℕ) (z : ℤ) (n : ℕ) (xs : List Response) → stored_ok most floor initiating size z ≡ true → each (response_ok most floor initiating) xs ≡ true → each (response_ok most floor initiating) (own_changed m o size z n xs) ≡ true
 each_changed m o most floor initiating size z n xs k h = each_rewritten (response_ok most floor initiating) m o size z n xs (λ (x : Response). restored_ok most floor initiating size z n x k) h

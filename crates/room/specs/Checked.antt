@@ -13,28 +13,48 @@ use Rattle.room.specs.declared.requests.ResponseRequest.{ResponseRequest}
 use Rattle.room.specs.declared.requests.WithdrawRequest.{WithdrawRequest}
 
 -- An order with its guarantee.
-abbrev pub order_given : CheckedOrder → PairedOrder
-order_given o =
-    record { side = o.side; size = o.size.contracts; limit = o.limit.cents; guarantee = record { kind = o.guarantee.kind; price = o.guarantee.price.cents } }
+abbrev pub paired_order : CheckedOrder → PairedOrder
+paired_order o =
+    record {
+      side = o.side;
+      size = o.size.contracts;
+      limit = o.limit.cents;
+      guarantee = record { kind = o.guarantee.kind; price = o.guarantee.price.cents };
+    }
 
 -- An opening.
-abbrev pub opening_given : CheckedOpening → OpeningRequest
-opening_given x = record { time = x.time.milliseconds; member = x.member.number; order = order_given x.order }
+abbrev pub opening_request : CheckedOpening → OpeningRequest
+opening_request x = record { time = x.time.milliseconds; member = x.member.number; order = paired_order x.order }
 
 -- Which response of which member.
-abbrev pub id_given : CheckedId → ResponseId
-id_given x = record { member = x.member.number; own = x.own.number }
+abbrev pub response_id : CheckedId → ResponseId
+response_id x = record { member = x.member.number; own_number = x.own_number.number }
 
 -- A response.
-abbrev pub response_given : CheckedResponse → ResponseRequest
-response_given x =
-    record { time = x.time.milliseconds; member = x.of.member.number; own = x.of.own.number; side = x.side; kind = x.kind; class = x.class; size = x.size.contracts; price = x.price.cents }
+abbrev pub response_request : CheckedResponse → ResponseRequest
+response_request x =
+    record {
+      time = x.time.milliseconds;
+      member = x.of.member.number;
+      own_number = x.of.own_number.number;
+      side = x.side;
+      kind = x.kind;
+      class = x.class;
+      size = x.size.contracts;
+      price = x.price.cents;
+    }
 
 -- A change.
-abbrev pub change_given : CheckedChange → ChangeRequest
-change_given x =
-    record { time = x.time.milliseconds; member = x.of.member.number; own = x.of.own.number; size = x.size.contracts; price = x.price.cents }
+abbrev pub change_request : CheckedChange → ChangeRequest
+change_request x =
+    record {
+      time = x.time.milliseconds;
+      member = x.of.member.number;
+      own_number = x.of.own_number.number;
+      size = x.size.contracts;
+      price = x.price.cents;
+    }
 
 -- A withdrawal.
-abbrev pub withdrawal_given : CheckedWithdrawal → WithdrawRequest
-withdrawal_given x = record { time = x.time.milliseconds; member = x.of.member.number; own = x.of.own.number }
+abbrev pub withdrawal_request : CheckedWithdrawal → WithdrawRequest
+withdrawal_request x = record { time = x.time.milliseconds; member = x.of.member.number; own_number = x.of.own_number.number }

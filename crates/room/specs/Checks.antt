@@ -1,5 +1,5 @@
--- The checks of what is handed in, in their order; the first that fails is told, and then nothing changes, not even the
--- clock.
+-- The checks of what is handed in, in their order; the first that fails is told, and then nothing changes,
+-- not even the clock.
 use Rattle.std.specs.Prelude.{ℕ, Bool, not, ℤ, Some, None, Option, nat_lt}
 use Rattle.market.specs.Limits.{in_limits}
 use Rattle.allocation.specs.AuctionInvariant.{from_to}
@@ -40,19 +40,25 @@ own_checked o = refuse (not (from_to 1 4 o)) 5
 -- An opening: time, limit price, guarantee's price, size, member.
 abbrev pub open_checks : OpeningRequest → Option ℕ
 open_checks o =
-    time_checked o.time (price_checked o.order.limit (price_checked o.order.guarantee.price (size_checked o.order.size (member_checked o.member None))))
+    time_checked o.time
+    (price_checked o.order.limit
+    (price_checked o.order.guarantee.price
+    (size_checked o.order.size
+    (member_checked o.member None))))
 
 -- A response: time, price, size, member, own number.
 abbrev pub respond_checks : ResponseRequest → Option ℕ
-respond_checks x = time_checked x.time (price_checked x.price (size_checked x.size (member_checked x.member (own_checked x.own None))))
+respond_checks x =
+    time_checked x.time (price_checked x.price (size_checked x.size (member_checked x.member (own_checked x.own_number None))))
 
 -- A change: the same.
 abbrev pub change_checks : ChangeRequest → Option ℕ
-change_checks x = time_checked x.time (price_checked x.price (size_checked x.size (member_checked x.member (own_checked x.own None))))
+change_checks x =
+    time_checked x.time (price_checked x.price (size_checked x.size (member_checked x.member (own_checked x.own_number None))))
 
 -- A withdrawal: time, member, own number.
 abbrev pub withdraw_checks : WithdrawRequest → Option ℕ
-withdraw_checks x = time_checked x.time (member_checked x.member (own_checked x.own None))
+withdraw_checks x = time_checked x.time (member_checked x.member (own_checked x.own_number None))
 
 -- A tick, a halt, a resume and a clock call: the time.
 abbrev pub time_checks : ℕ → Option ℕ

@@ -17,13 +17,14 @@ by_number n = record { number = n; fault = None }
 abbrev pub by_fault : {F : Type 0} → F → RefusalTold F
 by_fault f = record { number = 31; fault = Some f }
 
--- Of what is handed in: 1 time over its limit, 2 a price outside its limits, 3 a size, 4 a member, 5 an own number, 6 a
--- list of rows that is too short.
--- Openings: 12 halted, 13 an auction waits, 14 a side shows no price, 15 initiating price below the floor, 16 guarantee
--- above the initiating price, 17 a million auctions were opened.
+-- Of what is handed in: 1 time over its limit, 2 a price outside its limits, 3 a size, 4 a member, 5 an own number,
+-- 6 a list of rows that is too short.
+-- Openings: 12 halted, 13 an auction waits, 14 a side shows no price, 15 initiating price below the floor,
+-- 16 guarantee above the initiating price, 17 a million auctions were opened.
 -- Responses: 21 none open, 22 same side, 23 above the initiating price, 24 own number in use, 25 no such standing
 -- response, 26 it is plain, 27 the member's 10,000 are used.
--- Ticks: 31 the market's own fault, whole. Collecting: 41 still open, 42 another room's claim, or no such auction.
+-- Ticks: 31 the market's own fault, whole.
+-- Collecting: 41 still open, 42 another room's claim, or no such auction.
 abbrev pub refusal_number : {F : Type 0} → Refusal F → ℕ
 refusal_number TimeOverLimit = 1
 refusal_number PriceOutsideLimits = 2
@@ -49,17 +50,17 @@ refusal_number StillOpen = 41
 refusal_number NoSuchAuction = 42
 
 -- The market's fault, whole, where the refusal holds it.
-abbrev pub fault_held : {F : Type 0} → Refusal F → Option F
-fault_held (MarketFault f) = Some f
-fault_held _ = None
+abbrev pub fault_of : {F : Type 0} → Refusal F → Option F
+fault_of (MarketFault f) = Some f
+fault_of _ = None
 
 -- What is told of a refusal, where `f` is what is told of the market's fault.
 abbrev pub refusal_told : {F G : Type 0} → (F → G) → Refusal F → RefusalTold G
-refusal_told f e = record { number = refusal_number e; fault = option_map f (fault_held e) }
+refusal_told f e = record { number = refusal_number e; fault = option_map f (fault_of e) }
 
 -- The refusal, if the result is one, holds no fault.
 abbrev pub HoldsNoFault : {X F : Type 0} → Result X (Refusal F) → Type 0
-HoldsNoFault r = IfErr r (λ e. fault_held e ≡ None)
+HoldsNoFault r = IfErr r (λ e. fault_of e ≡ None)
 
 -- The refusal of this number where the test holds, and otherwise what the further tests say.
 abbrev pub refuse : Bool → ℕ → Option ℕ → Option ℕ

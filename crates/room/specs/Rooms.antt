@@ -1,7 +1,8 @@
 -- The state of a room in code, as the model has it.
-use Rattle.std.specs.Prelude.{ℕ, Bool, List, [], ◌∷◌, Some, None, Ok, Err, Option, Result}
+use Rattle.std.specs.Prelude.{List, ℕ, Bool, Ok, Err, Result}
 use Rattle.std.specs.Option.{option_map}
 use Rattle.std.specs.Result.{result_map_both}
+use denote.Ref.{Bor}
 use Rattle.market.specs.declared.range.PermittedRange.{PermittedRange}
 use Rattle.market.specs.Market.{Meaning}
 use Rattle.market.specs.Range.{RangePrices, range_prices}
@@ -16,26 +17,23 @@ use Rattle.room.specs.declared.ended.EndedAuction.{EndedAuction}
 use Rattle.room.specs.declared.claim.Claim.{Claim}
 use Rattle.room.specs.declared.refusal.Refusal.{Refusal}
 use Rattle.room.specs.declared.Room.{Room}
+use Rattle.room.specs.declared.waiting.WaitingAuctions.{WaitingAuctions}
 use Rattle.room.specs.Collecting.{CollectionTold}
 use Rattle.room.specs.Refusals.{RefusalTold, refusal_number, refusal_told}
 use Rattle.room.specs.State.{OpenValues, EndedValues, RoomState}
+use Rattle.room.specs.Waiting.{ended_values, waiting_list}
 use Rattle.room.specs.World.{World}
 
 abbrev pub claim_numbers : Claim → ClaimNumbers
 claim_numbers c = c.numbers
 
 abbrev pub open_values : OpenAuction → OpenValues
-open_values a = record { number = a.number; deadline = a.deadline; values = auction_values a.auction; arrivals = a.arrivals; used = a.used }
+open_values a =
+    record { number = a.number; deadline = a.deadline; values = auction_values a.auction; arrivals = a.arrivals; used = a.used }
 
-abbrev pub ended_values : EndedAuction → EndedValues
-ended_values e = record { number = e.number; values = auction_values e.auction; cause = cause_letter e.cause }
-
--- The auctions that wait, the oldest first.
-abbrev pub listed : Option EndedAuction → Option EndedAuction → List EndedValues
-listed None None = []
-listed None (Some b) = ended_values b ∷ []
-listed (Some a) None = ended_values a ∷ []
-listed (Some a) (Some b) = ended_values a ∷ (ended_values b ∷ [])
+-- The values of the auctions that wait, the oldest first.
+abbrev pub waiting_values : WaitingAuctions → List EndedValues
+waiting_values w = waiting_list w.first w.second
 
 -- What a collecting tells: the cause by its letter.
 abbrev pub collection_told : Collection → CollectionTold
@@ -46,11 +44,12 @@ abbrev pub range_result : {F : Type 0} → Result PermittedRange (Refusal F) →
 range_result = result_map_both range_prices refusal_number
 
 -- The values of an auction that waits, or the refusal's number.
-abbrev pub waiting_result : {F : Type 0} → Result EndedAuction (Refusal F) → Result EndedValues ℕ
-waiting_result = result_map_both ended_values refusal_number
+abbrev pub waiting_result : {F : Type 0} → Result (Bor EndedAuction) (Refusal F) → Result EndedValues ℕ
+waiting_result = result_map_both (λ e. ended_values e.now) refusal_number
 
 -- A refused collecting hands the claim back.
-abbrev pub collected_answer : {F : Type 0} → Claim → Result CollectionTold (RefusalTold F) → Result CollectionTold (RefusalTold F × Claim)
+abbrev pub collected_answer : {F : Type 0} → Claim → Result CollectionTold (RefusalTold F)
+    → Result CollectionTold (RefusalTold F × Claim)
 collected_answer c (Ok k) = Ok k
 collected_answer c (Err e) = Err (e, c)
 
@@ -77,6 +76,6 @@ module _ {M R S P Q : Type 0} where
     position = position r.market;
     source = source r.source;
     current = option_map open_values r.current;
-    waiting = listed r.first r.second;
+    waiting = waiting_values r.waiting;
     opened = r.opened;
   }

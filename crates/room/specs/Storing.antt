@@ -1,5 +1,5 @@
--- How a price and a size are stored, and what a request whose parts are within their limits has passed by the state of the
--- open auction when it is carried out there.
+-- How a price and a size are stored, and what a request whose parts are within their limits has passed by the
+-- state of the open auction when it is carried out there.
 use Rattle.std.specs.Prelude.{◌≡◌, ℕ, ◌+◌, true, false, ℤ, is_some, int_lt, nat_le}
 use Rattle.allocation.specs.declared.response.NewTerms.{NewTerms}
 use Rattle.allocation.specs.Table.{own_response}
@@ -20,9 +20,9 @@ pub record TermsPass (a : OpenValues) (member : ℕ) (price : ℤ) : Type 0 wher
 -- A response: its own number is not in use.
 pub record ResponsePasses (a : OpenValues) (x : ResponseRequest) : Type 0 where
   pub terms : TermsPass a x.member x.price
-  pub not_in_use : is_some (own_response x.member x.own a.values.stood) ≡ false
+  pub not_in_use : is_some (own_response x.member x.own_number a.values.stood) ≡ false
 
 -- A change: the response stands.
 pub record ChangePasses (a : OpenValues) (x : ChangeRequest) : Type 0 where
   pub terms : TermsPass a x.member x.price
-  pub stands : is_some (own_response x.member x.own a.values.stood) ≡ true
+  pub stands : is_some (own_response x.member x.own_number a.values.stood) ≡ true

@@ -10,37 +10,37 @@ use Rattle.allocation.specs.declared.response.Response.{Response}
 use Rattle.allocation.specs.Auction.{AuctionValues, with_floor}
 use Rattle.allocation.specs.Table.{any_below}
 use Rattle.room.specs.Checks.{time_checks}
-use Rattle.room.specs.Clock.{timed}
+use Rattle.room.specs.Clock.{timed_call}
 use Rattle.room.specs.Refusals.{RefusalTold, by_fault}
-use Rattle.room.specs.State.{OpenValues, RoomState, at_position, with_current, ended}
+use Rattle.room.specs.State.{OpenValues, RoomState, at_position, with_current, after_end}
 use Rattle.room.specs.World.{World}
 
 -- A shown price is above a price; a side with no price is above nothing.
 abbrev pub shown_above : Option ℤ → ℤ → Bool
-shown_above None z = false
+shown_above None _ = false
 shown_above (Some f) z = int_lt z f
 
 -- A shown price is below a price; a side with no price is below nothing.
 abbrev pub shown_below : Option ℤ → ℤ → Bool
-shown_below None z = false
+shown_below None _ = false
 shown_below (Some f) z = int_lt f z
 
 -- A shown floor is above a response that stands.
 abbrev pub above_response : Option ℤ → List Response → Bool
-above_response None xs = false
+above_response None _ = false
 above_response (Some f) xs = any_below f xs
 
 -- A shown floor is above the stop, where the guarantee is a single stop.
 abbrev pub above_stop : Option ℤ → GuaranteeKind → ℤ → Bool
 above_stop floor SingleStop price = shown_above floor price
-above_stop floor AutoMatchLimit price = false
+above_stop _ AutoMatchLimit _ = false
 
 -- The cause of this letter where the test holds, and otherwise what the further tests say.
 abbrev pub ends_for : Bool → ℕ → Option ℕ → Option ℕ
 ends_for test c further = cond test (Some c) further
 
--- The first of these that holds ends the auction: B, the new floor above the initiating price; C, above a standing
--- response; D, single stop and above the stop; F, the new contra price below the guarantee.
+-- The first of these that holds ends the auction: B, the new floor above the initiating price; C, above a
+-- standing response; D, single stop and above the stop; F, the new contra price below the guarantee.
 abbrev pub tick_cause : AuctionValues → TurnedQuote → Option ℕ
 tick_cause v q =
     ends_for (shown_above q.floor v.initiating) (byte "B")
@@ -55,28 +55,30 @@ floor_now (Some f) z = f
 
 -- The open auction with another floor.
 abbrev pub at_floor : ℤ → OpenValues → OpenValues
-at_floor f a = record { number = a.number; deadline = a.deadline; values = with_floor a.values f; arrivals = a.arrivals; used = a.used }
+at_floor f a = record a { values = with_floor a.values f }
 
 module _ {P Q : Type 0} where
   -- The auction that a tick ends keeps the floor from before the tick; with no end, the new floor counts.
-  abbrev pub ticked_for : Option ℕ → TurnedQuote → RoomState P Q → OpenValues → RoomState P Q
-  ticked_for (Some c) q s a = ended c s
-  ticked_for None q s a = with_current (at_floor (floor_now q.floor a.values.floor) a) s
+  abbrev pub after_tick_cause : Option ℕ → TurnedQuote → RoomState P Q → OpenValues → RoomState P Q
+  after_tick_cause (Some c) q s a = after_end c s
+  after_tick_cause None q s a = with_current (at_floor (floor_now q.floor a.values.floor) a) s
 
   -- What the market now shows to the open auction, if there is one.
-  abbrev pub ticked : Option OpenValues → Quote → RoomState P Q → RoomState P Q
-  ticked None q s = s
-  ticked (Some a) q s = let f = turned_quote a.values.order.side q in ticked_for (tick_cause a.values f) f s a
+  abbrev pub after_shown : Option OpenValues → Quote → RoomState P Q → RoomState P Q
+  after_shown None q s = s
+  after_shown (Some a) q s =
+      let f = turned_quote a.values.order.side q in after_tick_cause (tick_cause a.values f) f s a
 
 module _ {P T F Q : Type 0} (w : World P T F Q) where
-  -- After an accepted tick the market has its next position, and the open auction takes notice of what it shows. A
-  -- refused tick changes nothing, and its refusal holds the market's fault.
+  -- After an accepted tick the market has its next position, and the open auction takes notice of what it
+  -- shows. A refused tick changes nothing, and its refusal holds the market's fault.
   abbrev pub ticking_by : Result (Unit {0}) F → RoomState P Q → T → RoomState P Q × Result (Unit {0}) (RefusalTold F)
-  ticking_by (Ok _) s t = let p = w.market.next s.position t in (ticked s.current (w.market.shows p) (at_position p s), Ok tt)
+  ticking_by (Ok _) s t =
+      let p = w.market.next s.position t in (after_shown s.current (w.market.shows p) (at_position p s), Ok tt)
   ticking_by (Err f) s t = (s, Err (by_fault f))
 
   abbrev pub ticking : RoomState P Q → T → RoomState P Q × Result (Unit {0}) (RefusalTold F)
   ticking s t = ticking_by (w.market.answer s.position t) s t
 
   abbrev pub tick_call : RoomState P Q → ℕ → T → RoomState P Q × Result (Unit {0}) (RefusalTold F)
-  tick_call s time t = timed (time_checks time) s time (λ u. ticking u t)
+  tick_call s time t = timed_call (time_checks time) s time (λ u. ticking u t)

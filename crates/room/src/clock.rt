@@ -1,8 +1,9 @@
 // The clock step, with which every timed call begins.
 ghost use Rattle.std.specs.Prelude.{◌≡◌};
 ghost use Rattle.std.specs.Option.{option_map};
-ghost use Rattle.room.specs.Clock.{due, clocked};
-ghost use Rattle.room.specs.Rooms.{open_values, state_of};
+ghost use Rattle.room.specs.Calls.{HasEffect};
+ghost use Rattle.room.specs.Clock.{due, after_clock};
+ghost use Rattle.room.specs.Rooms.{open_values};
 
 use crate::Room;
 use crate::limits::Time;
@@ -21,10 +22,9 @@ impl<M: Market, R: Ranking, S: IntervalSource> Room<M, R, S> {
             .is_some_and(|open| open.deadline <= self.time)
     }
 
-    // The room's time becomes the later of its own and the given one; then an auction whose deadline is reached ends.
+    // The room's time becomes the later of the two; then an auction whose deadline is reached ends.
     pub(crate) fn step_clock(&mut self, time: Time)
-        ensures state { state_of M.Market.position S.IntervalSource.position self.new ≡ clocked (state_of M.Market.position S.IntervalSource.position self.old) time.milliseconds }
-        ensures ranking { self.new.ranking ≡ self.old.ranking }
+        ensures { HasEffect M.Market S.IntervalSource self.old self.new (λ s. after_clock s time.milliseconds) }
     {
         self.time = self.time.max(time.milliseconds);
         if self.is_due() {

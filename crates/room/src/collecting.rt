@@ -1,10 +1,11 @@
 // Collecting an ended auction with its claim.
-ghost use Rattle.std.specs.Prelude.{◌≡◌, false, ◌++◌, length, drop};
+ghost use Rattle.std.specs.Prelude.{◌≡◌};
 ghost use Rattle.std.specs.Option.{option_map};
-ghost use Rattle.room.specs.Collecting.{collectable, collect_call, collect_rows};
+ghost use Rattle.room.specs.Calls.{fills_told, room_state, CollectingGives, Writes};
+ghost use Rattle.room.specs.Collecting.{collectable};
 ghost use Rattle.room.specs.Refusals.{HoldsNoFault};
-ghost use Rattle.room.specs.Rooms.{claim_numbers, collected_answer, collection_answer, ended_values, listed, open_values, state_of, waiting_result, world_of};
-ghost use Rattle.room.specs.State.{is_number, numbered, without_number};
+ghost use Rattle.room.specs.Rooms.{claim_numbers, open_values, waiting_result};
+ghost use Rattle.room.specs.State.{is_number};
 
 use crate::Room;
 use crate::answers::Collection;
@@ -27,8 +28,9 @@ impl<M: Market, R: Ranking, S: IntervalSource> Room<M, R, S> {
     }
 
     // The auction of a claim, or the first refusal.
-    fn collectable(&self, claim: &Claim, rows: usize) -> Result<EndedAuction, Refusal<M::Fault>>
-        ensures answer { waiting_result result ≡ collectable (state_of M.Market.position S.IntervalSource.position self.now) (claim_numbers claim.now) rows }
+    fn collectable(&self, claim: &Claim, rows: usize) -> Result<&EndedAuction, Refusal<M::Fault>>
+        ensures answer { waiting_result result
+            ≡ collectable (room_state M.Market S.IntervalSource self.now) (claim_numbers claim.now) rows }
         ensures no_fault { HoldsNoFault result }
     {
         if rows < LEAST_ROWS {
@@ -41,34 +43,45 @@ impl<M: Market, R: Ranking, S: IntervalSource> Room<M, R, S> {
             return Err(Refusal::StillOpen);
         }
         // No `ok_or`, which would have to drop a refusal, and so a market's fault.
-        self.numbered(claim.numbers.auction)
+        self.waiting
+            .auction(claim.numbers.auction)
             .ok_or_else(|| Refusal::NoSuchAuction)
     }
 
-    // Spends the claim and writes the auction's fill list; a refusal hands the claim back and writes nothing.
+    // Writes the fill list of a claim's auction, or tells the first refusal.
+    fn write_fills(
+        &self,
+        claim: &Claim,
+        rows: &mut [FillRow],
+    ) -> Result<Collection, Refusal<M::Fault>>
+        ensures { Writes M.Market R.Ranking S.IntervalSource self.now (claim_numbers claim.now) rows.old rows.new
+            (fills_told M.Market result) }
+    {
+        let ended = self.collectable(claim, rows.len())?;
+        Ok(Collection {
+            count: ended.auction.write_fills(&self.ranking, rows),
+            cause: ended.cause,
+        })
+    }
+
+    /// Spends the claim and writes the auction's fill list to the head of the list of rows; the rows behind
+    /// it stay. A refusal hands the claim back and writes nothing. Refusals: 6, 41, 42.
     pub fn collect(
         &mut self,
         claim: Claim,
         rows: &mut [FillRow],
     ) -> Result<Collection, (Refusal<M::Fault>, Claim)>
-        ensures state { state_of M.Market.position S.IntervalSource.position self.new ≡ (collect_call (world_of M.Market.meaning S.IntervalSource.meaning (R.Ranking.ahead self.old.ranking)) (state_of M.Market.position S.IntervalSource.position self.old) (claim_numbers claim) (length rows.old)).0 }
-        ensures answer { collection_answer M.Market.told result ≡ collected_answer claim (collect_call (world_of M.Market.meaning S.IntervalSource.meaning (R.Ranking.ahead self.old.ranking)) (state_of M.Market.position S.IntervalSource.position self.old) (claim_numbers claim) (length rows.old)).1 }
-        ensures rows { rows.new ≡ collect_rows (world_of M.Market.meaning S.IntervalSource.meaning (R.Ranking.ahead self.old.ranking)) (state_of M.Market.position S.IntervalSource.position self.old) (claim_numbers claim) (length rows.old) ++ drop (length (collect_rows (world_of M.Market.meaning S.IntervalSource.meaning (R.Ranking.ahead self.old.ranking)) (state_of M.Market.position S.IntervalSource.position self.old) (claim_numbers claim) (length rows.old))) rows.old }
-        ensures ranking { self.new.ranking ≡ self.old.ranking }
+        ensures { CollectingGives M.Market R.Ranking S.IntervalSource self.old self.new claim rows.old rows.new
+            result }
     {
         // A match and no `map_err`: no closure can hold the claim, which cannot be dropped.
-        let ended = match self.collectable(&claim, rows.len()) {
-            Ok(ended) => ended,
-            Err(refusal) => return Err((refusal, claim)),
-        };
-        let Claim { numbers } = claim;
-        let Ok(count) = ended.auction.fill(&self.ranking, rows) else {
-            unreachable()
-        };
-        self.remove(numbers.auction);
-        Ok(Collection {
-            count,
-            cause: ended.cause,
-        })
+        match self.write_fills(&claim, rows) {
+            Ok(collection) => {
+                let Claim { numbers } = claim;
+                self.waiting.remove(numbers.auction);
+                Ok(collection)
+            }
+            Err(refusal) => Err((refusal, claim)),
+        }
     }
 }

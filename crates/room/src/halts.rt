@@ -1,9 +1,6 @@
 // Halting, resuming, and the clock call.
-ghost use Rattle.std.specs.Prelude.{◌≡◌};
-ghost use Rattle.market.specs.Market.{told_by};
+ghost use Rattle.room.specs.Calls.{answer_told, Gives};
 ghost use Rattle.room.specs.Halts.{halt_call, resume_call, clock_call};
-ghost use Rattle.room.specs.Refusals.{refusal_told};
-ghost use Rattle.room.specs.Rooms.{state_of};
 
 use crate::Room;
 use crate::limits::Time;
@@ -14,11 +11,11 @@ use interval::source::IntervalSource;
 use market::Market;
 
 impl<M: Market, R: Ranking, S: IntervalSource> Room<M, R, S> {
-    // Halts the room; an open auction ends.
+    /// Halts the room at this time, in milliseconds, or at its own if that is later; an open auction ends for H.
+    /// Refusal: 1. A halted room may be halted again.
     pub fn halt(&mut self, time: u64) -> Result<(), Refusal<M::Fault>>
-        ensures state { state_of M.Market.position S.IntervalSource.position self.new ≡ (halt_call {F = M.Market.Told} (state_of M.Market.position S.IntervalSource.position self.old) time).0 }
-        ensures answer { told_by (refusal_told M.Market.told) result ≡ (halt_call (state_of M.Market.position S.IntervalSource.position self.old) time).1 }
-        ensures ranking { self.new.ranking ≡ self.old.ranking }
+        ensures { Gives M.Market R.Ranking S.IntervalSource self.old self.new (answer_told M.Market result)
+            (λ w s. halt_call s time) }
     {
         let time = Time::checked(time)?;
         self.step_clock(time);
@@ -27,11 +24,10 @@ impl<M: Market, R: Ranking, S: IntervalSource> Room<M, R, S> {
         Ok(())
     }
 
-    // Lets auctions be opened again.
+    /// Lets auctions be opened again. Refusal: 1. A room that is not halted may be resumed.
     pub fn resume(&mut self, time: u64) -> Result<(), Refusal<M::Fault>>
-        ensures state { state_of M.Market.position S.IntervalSource.position self.new ≡ (resume_call {F = M.Market.Told} (state_of M.Market.position S.IntervalSource.position self.old) time).0 }
-        ensures answer { told_by (refusal_told M.Market.told) result ≡ (resume_call (state_of M.Market.position S.IntervalSource.position self.old) time).1 }
-        ensures ranking { self.new.ranking ≡ self.old.ranking }
+        ensures { Gives M.Market R.Ranking S.IntervalSource self.old self.new (answer_told M.Market result)
+            (λ w s. resume_call s time) }
     {
         let time = Time::checked(time)?;
         self.step_clock(time);
@@ -39,11 +35,10 @@ impl<M: Market, R: Ranking, S: IntervalSource> Room<M, R, S> {
         Ok(())
     }
 
-    // The clock step and nothing else.
+    /// Tells the room the time, in milliseconds: an auction whose deadline is reached ends for T. Refusal: 1.
     pub fn clock(&mut self, time: u64) -> Result<(), Refusal<M::Fault>>
-        ensures state { state_of M.Market.position S.IntervalSource.position self.new ≡ (clock_call {F = M.Market.Told} (state_of M.Market.position S.IntervalSource.position self.old) time).0 }
-        ensures answer { told_by (refusal_told M.Market.told) result ≡ (clock_call (state_of M.Market.position S.IntervalSource.position self.old) time).1 }
-        ensures ranking { self.new.ranking ≡ self.old.ranking }
+        ensures { Gives M.Market R.Ranking S.IntervalSource self.old self.new (answer_told M.Market result)
+            (λ w s. clock_call s time) }
     {
         let time = Time::checked(time)?;
         self.step_clock(time);

@@ -1,10 +1,11 @@
-// What is handed in, once it is known to be within its limits: each of these is made by its check alone. They are no one type
-// with bounds as const parameters: their numbers are of four types (u64, i64, u32, u8), and each has a refusal of its own.
+// What is handed in, once it is known to be within its limits: each of these is made by its check alone. They
+// are no one type with bounds as const parameters: their numbers are of four types (u64, i64, u32, u8), and
+// each has a refusal of its own.
 ghost use Rattle.std.specs.Prelude.{◌≡◌, ◌-◌, ◌<◌, ◌≤◌, true, Ok, Some, None as Nothing};
 ghost use Rattle.std.specs.Result.{result_map_both};
 ghost use Rattle.allocation.specs.AuctionInvariant.{from_to};
 ghost use Rattle.market.specs.Limits.{in_limits};
-ghost use Rattle.market.specs.Side.{turned};
+ghost use Rattle.market.specs.Side.{turned_price};
 ghost use Rattle.room.specs.Checks.{time_checked, price_checked, size_checked, member_checked, own_checked};
 ghost use Rattle.room.specs.Refusals.{refusal_number, unless, HoldsNoFault};
 
@@ -47,7 +48,8 @@ pub(crate) struct OwnNumber {
 
 impl Time {
     pub(crate) fn checked<F>(milliseconds: u64) -> Result<Time, Refusal<F>>
-        ensures answer { result_map_both (λ x. x.milliseconds) refusal_number result ≡ unless (time_checked milliseconds Nothing) (Ok milliseconds) }
+        ensures answer { result_map_both (λ x. x.milliseconds) refusal_number result
+            ≡ unless (time_checked milliseconds Nothing) (Ok milliseconds) }
         ensures no_fault { HoldsNoFault result }
     {
         if milliseconds > LAST_TIME {
@@ -59,7 +61,8 @@ impl Time {
 
 impl Price {
     pub(crate) fn checked<F>(cents: i64) -> Result<Price, Refusal<F>>
-        ensures answer { result_map_both (λ x. x.cents) refusal_number result ≡ unless (price_checked cents Nothing) (Ok cents) }
+        ensures answer { result_map_both (λ x. x.cents) refusal_number result
+            ≡ unless (price_checked cents Nothing) (Ok cents) }
         ensures no_fault { HoldsNoFault result }
     {
         if !in_limits(cents) {
@@ -70,7 +73,7 @@ impl Price {
 
     // The price itself for a buy, with its sign changed for a sell.
     pub(crate) fn turned(self, side: Side) -> i64
-        ensures { result ≡ turned side self.cents }
+        ensures { result ≡ turned_price side self.cents }
     {
         side.turn(self.cents)
     }
@@ -78,7 +81,8 @@ impl Price {
 
 impl Size {
     pub(crate) fn checked<F>(contracts: u32) -> Result<Size, Refusal<F>>
-        ensures answer { result_map_both (λ x. x.contracts) refusal_number result ≡ unless (size_checked contracts Nothing) (Ok contracts) }
+        ensures answer { result_map_both (λ x. x.contracts) refusal_number result
+            ≡ unless (size_checked contracts Nothing) (Ok contracts) }
         ensures no_fault { HoldsNoFault result }
     {
         if !is_size(contracts) {
@@ -90,7 +94,8 @@ impl Size {
 
 impl Member {
     pub(crate) fn checked<F>(number: u8) -> Result<Member, Refusal<F>>
-        ensures answer { result_map_both (λ x. x.number) refusal_number result ≡ unless (member_checked number Nothing) (Ok number) }
+        ensures answer { result_map_both (λ x. x.number) refusal_number result
+            ≡ unless (member_checked number Nothing) (Ok number) }
         ensures no_fault { HoldsNoFault result }
     {
         if !is_member(number) {
@@ -99,9 +104,9 @@ impl Member {
         Ok(Member { number })
     }
 
-    // The member's place in a list of all.
-    pub(crate) fn place(self) -> usize
-        ensures place { result ≡ self.number - 1 }
+    // The member's index in a list of all.
+    pub(crate) fn index(self) -> usize
+        ensures index { result ≡ self.number - 1 }
         ensures within { result < 16 }
     {
         usize::from(self.number - 1)
@@ -110,7 +115,8 @@ impl Member {
 
 impl OwnNumber {
     pub(crate) fn checked<F>(number: u8) -> Result<OwnNumber, Refusal<F>>
-        ensures answer { result_map_both (λ x. x.number) refusal_number result ≡ unless (own_checked number Nothing) (Ok number) }
+        ensures answer { result_map_both (λ x. x.number) refusal_number result
+            ≡ unless (own_checked number Nothing) (Ok number) }
         ensures no_fault { HoldsNoFault result }
     {
         if !is_own_number(number) {

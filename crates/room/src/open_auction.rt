@@ -7,7 +7,7 @@ ghost use Rattle.allocation.specs.Cause.{cause_letter};
 ghost use Rattle.allocation.specs.Share.{total};
 ghost use Rattle.room.specs.Counts.{all_within, all_arrived};
 ghost use Rattle.room.specs.Looks.{auction_view};
-ghost use Rattle.room.specs.Openings.{none_used};
+ghost use Rattle.room.specs.Openings.{new_open};
 ghost use Rattle.room.specs.Ticks.{shown_above, above_response, above_stop, tick_cause, floor_now, at_floor};
 
 use crate::answers::AuctionView;
@@ -16,9 +16,9 @@ use allocation::cause::EndCause;
 use allocation::order::GuaranteeKind;
 use market::range::TurnedQuote;
 
-// The open auction. Arrival numbers count up over all members; `used` has a place for each of the 16 members, in fixed memory,
-// since a room takes no heap.
-#[derive(Clone, Copy)]
+// The open auction. Arrival numbers count up over all members. `used` has a slot for each of the 16 members:
+// how many of its responses and changes were accepted, 10,000 at most.
+#[derive(Drop)]
 pub(crate) struct OpenAuction {
     pub(crate) number: u32,
     pub(crate) deadline: u64,
@@ -44,7 +44,8 @@ impl OpenAuction {
     // An auction with no response yet.
     pub(crate) fn new(number: u32, deadline: u64, auction: Auction) -> OpenAuction
         requires { (auction_values auction).stood ≡ [] }
-        ensures { open_values result ≡ record { number = number; deadline = deadline; values = auction_values auction; arrivals = 0; used = none_used } }
+        ensures { open_values result
+            ≡ new_open number deadline (auction_values auction) }
     {
         OpenAuction {
             number,
@@ -64,7 +65,9 @@ impl OpenAuction {
 
     // The floor is above a single stop.
     fn is_stop_below(&self, floor: Option<i64>) -> bool
-        ensures { result ≡ above_stop floor (open_values self.now).values.order.guarantee.kind (open_values self.now).values.order.guarantee.price }
+        ensures { result
+            ≡ above_stop floor (open_values self.now).values.order.guarantee.kind
+            (open_values self.now).values.order.guarantee.price }
     {
         let guarantee = self.auction.order().guarantee;
         guarantee.kind == GuaranteeKind::SingleStop && is_above(floor, guarantee.price)
@@ -94,10 +97,12 @@ impl OpenAuction {
     pub(crate) fn take_floor(&mut self, shown: &TurnedQuote)
         requires kept { tick_cause (open_values self.old).values shown.now ≡ Nothing }
         requires floor { showable shown.now.floor ≡ true }
-        ensures { open_values self.new ≡ at_floor (floor_now shown.now.floor (open_values self.old).values.floor) (open_values self.old) }
+        ensures { open_values self.new
+            ≡ at_floor (floor_now shown.now.floor (open_values self.old).values.floor)
+            (open_values self.old) }
     {
         if let Some(floor) = shown.floor {
-            let _ = self.auction.move_floor(floor);
+            self.auction.move_floor(floor);
         }
     }
 

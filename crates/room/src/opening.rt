@@ -3,11 +3,12 @@ ghost use Rattle.std.specs.Prelude.{◌≡◌, false, None as Nothing, int_lt, n
 ghost use Rattle.allocation.specs.Auction.{auction_values};
 ghost use Rattle.market.specs.Range.{range_prices};
 ghost use Rattle.market.specs.Refusal.{range_number};
-ghost use Rattle.market.specs.Side.{turned};
-ghost use Rattle.room.specs.Checked.{order_given};
-ghost use Rattle.room.specs.Openings.{stored_order, new_values, any_waits, opening_range, opened_with, open_call};
-ghost use Rattle.room.specs.Refusals.{refusal_number, fault_held, HoldsNoFault};
-ghost use Rattle.room.specs.Rooms.{claim_answer, listed, range_result, state_of, world_of};
+ghost use Rattle.market.specs.Side.{turned_price};
+ghost use Rattle.room.specs.Calls.{claim_told, range_for, Gives, Opens};
+ghost use Rattle.room.specs.Checked.{paired_order};
+ghost use Rattle.room.specs.Openings.{stored_order, new_values, any_waits, open_call};
+ghost use Rattle.room.specs.Refusals.{refusal_number, fault_of, HoldsNoFault};
+ghost use Rattle.room.specs.Rooms.{range_result, waiting_values};
 
 use crate::Room;
 use crate::answers::ClaimNumbers;
@@ -20,6 +21,7 @@ use allocation::auction::Auction;
 use allocation::cause::EndCause;
 use allocation::order::{Guarantee, PairedOrder};
 use allocation::ranking::Ranking;
+use allocation::terms::AuctionTerms;
 use interval::source::IntervalSource;
 use market::Market;
 use market::range::PermittedRange;
@@ -32,7 +34,7 @@ const MOST_OPENED: u32 = 1_000_000;
 // `From<RangeRefusal>` would overlap the one that takes any market's fault.
 fn range_refusal<F>(told: RangeRefusal) -> Refusal<F>
     ensures number { refusal_number result ≡ range_number told }
-    ensures no_fault { fault_held result ≡ Nothing }
+    ensures no_fault { fault_of result ≡ Nothing }
 {
     match told {
         RangeRefusal::PriceOutsideLimits => Refusal::PriceOutsideLimits,
@@ -43,14 +45,14 @@ fn range_refusal<F>(told: RangeRefusal) -> Refusal<F>
 
 // The guarantee, turned, is above the initiating price.
 fn is_guarantee_above(order: &CheckedOrder, range: &PermittedRange) -> bool
-    ensures { result ≡ int_lt range.now.initiating (turned order.now.side order.now.guarantee.price.cents) }
+    ensures { result ≡ int_lt range.now.initiating (turned_price order.now.side order.now.guarantee.price.cents) }
 {
     range.initiating < order.guarantee.price.turned(order.side)
 }
 
 // An order as an auction stores it: limit and guarantee turned, and a guarantee below the floor at the floor.
 fn stored(order: &CheckedOrder, range: &PermittedRange) -> PairedOrder
-    ensures { result ≡ stored_order range.now.floor (order_given order.now) }
+    ensures { result ≡ stored_order range.now.floor (paired_order order.now) }
 {
     let mut stored = PairedOrder {
         side: order.side,
@@ -68,26 +70,31 @@ fn stored(order: &CheckedOrder, range: &PermittedRange) -> PairedOrder
 
 // The auction of an order in its range, with no response yet.
 fn new_auction(order: &CheckedOrder, range: &PermittedRange) -> Auction
-    requires { int_lt range.now.initiating (turned order.now.side order.now.guarantee.price.cents) ≡ false }
-    ensures { auction_values result ≡ new_values (order_given order.now) (range_prices range.now) }
+    requires { int_lt range.now.initiating (turned_price order.now.side order.now.guarantee.price.cents) ≡ false }
+    ensures { auction_values result ≡ new_values (paired_order order.now) (range_prices range.now) }
 {
-    Auction::new(stored(order, range), range.floor, range.initiating).unwrap()
+    Auction::new(AuctionTerms {
+        order: stored(order, range),
+        floor: range.floor,
+        initiating: range.initiating,
+    })
 }
 
 impl<M: Market, R: Ranking, S: IntervalSource> Room<M, R, S> {
     // The range of an order that may open, or the first refusal.
     fn opening_range(&self, order: &CheckedOrder) -> Result<PermittedRange, Refusal<M::Fault>>
-        ensures answer { range_result result ≡ opening_range (world_of M.Market.meaning S.IntervalSource.meaning (R.Ranking.ahead self.now.ranking)) (state_of M.Market.position S.IntervalSource.position self.now) (order_given order.now) }
+        ensures answer { range_result result
+            ≡ range_for M.Market R.Ranking S.IntervalSource self.now (paired_order order.now) }
         ensures no_fault { HoldsNoFault result }
     {
         if self.halted {
             return Err(Refusal::RoomHalted);
         }
-        if self.first.is_some() || self.second.is_some() {
+        if !self.waiting.is_empty() {
             return Err(Refusal::AuctionWaits);
         }
         let permitted = PermittedRange::of(&self.market, order.side, order.limit.cents);
-        // A closure: the check does not cover a function's own name there whose result names the market's fault.
+        // A closure: the check does not take a function's name whose result names the market's fault.
         let range = permitted.map_err(|told| range_refusal(told))?;
         if is_guarantee_above(order, &range) {
             return Err(Refusal::GuaranteeAboveInitiating);
@@ -100,11 +107,11 @@ impl<M: Market, R: Ranking, S: IntervalSource> Room<M, R, S> {
 
     // Opens the auction of an order in its range; one that was open ends first.
     fn begin(&mut self, order: &CheckedOrder, range: PermittedRange)
-        requires none { any_waits (listed self.old.first self.old.second) ≡ false }
-        requires guaranteed { int_lt range.initiating (turned order.now.side order.now.guarantee.price.cents) ≡ false }
+        requires none { any_waits (waiting_values self.old.waiting) ≡ false }
+        requires guaranteed { int_lt range.initiating (turned_price order.now.side order.now.guarantee.price.cents) ≡ false }
         requires few { nat_le 1000000 self.old.opened ≡ false }
-        ensures state { state_of M.Market.position S.IntervalSource.position self.new ≡ opened_with (world_of M.Market.meaning S.IntervalSource.meaning (R.Ranking.ahead self.old.ranking)) (state_of M.Market.position S.IntervalSource.position self.old) (order_given order.now) (range_prices range) }
-        ensures ranking { self.new.ranking ≡ self.old.ranking }
+        ensures { Opens M.Market R.Ranking S.IntervalSource self.old self.new (paired_order order.now)
+            (range_prices range) }
     {
         let auction = new_auction(order, &range);
         self.end(EndCause::NextAuction);
@@ -117,11 +124,11 @@ impl<M: Market, R: Ranking, S: IntervalSource> Room<M, R, S> {
         ));
     }
 
-    // Opens an auction of an order with its guarantee. The claim collects it when it has ended.
+    /// Opens an auction of an order with its guarantee; one that is open ends for A. The claim collects the
+    /// auction when it has ended. Refusals: 1 to 4, 12 to 17.
     pub fn open(&mut self, request: OpeningRequest) -> Result<Claim, Refusal<M::Fault>>
-        ensures state { state_of M.Market.position S.IntervalSource.position self.new ≡ (open_call (world_of M.Market.meaning S.IntervalSource.meaning (R.Ranking.ahead self.old.ranking)) (state_of M.Market.position S.IntervalSource.position self.old) request).0 }
-        ensures answer { claim_answer M.Market.told result ≡ (open_call (world_of M.Market.meaning S.IntervalSource.meaning (R.Ranking.ahead self.old.ranking)) (state_of M.Market.position S.IntervalSource.position self.old) request).1 }
-        ensures ranking { self.new.ranking ≡ self.old.ranking }
+        ensures { Gives M.Market R.Ranking S.IntervalSource self.old self.new (claim_told M.Market result)
+            (λ w s. open_call w s request) }
     {
         let opening = request.checked()?;
         self.step_clock(opening.time);

@@ -1,9 +1,6 @@
 // Responding to the open auction, changing a response and withdrawing one.
-ghost use Rattle.std.specs.Prelude.{◌≡◌};
-ghost use Rattle.market.specs.Market.{told_by};
-ghost use Rattle.room.specs.Refusals.{refusal_told};
+ghost use Rattle.room.specs.Calls.{answer_told, Gives};
 ghost use Rattle.room.specs.Responses.{respond_call, change_call, withdraw_call};
-ghost use Rattle.room.specs.Rooms.{state_of};
 
 use crate::Room;
 use crate::answers::StoredTerms;
@@ -16,11 +13,11 @@ use interval::source::IntervalSource;
 use market::Market;
 
 impl<M: Market, R: Ranking, S: IntervalSource> Room<M, R, S> {
-    // Stores a response; a plain one priced below the floor then ends the auction.
+    /// Stores a response in the open auction, and answers its terms as they are stored; a plain one priced
+    /// below the floor then ends the auction for E. Refusals: 1 to 5, 21 to 24, 27.
     pub fn respond(&mut self, request: ResponseRequest) -> Result<StoredTerms, Refusal<M::Fault>>
-        ensures state { state_of M.Market.position S.IntervalSource.position self.new ≡ (respond_call {F = M.Market.Told} (state_of M.Market.position S.IntervalSource.position self.old) request).0 }
-        ensures answer { told_by (refusal_told M.Market.told) result ≡ (respond_call (state_of M.Market.position S.IntervalSource.position self.old) request).1 }
-        ensures ranking { self.new.ranking ≡ self.old.ranking }
+        ensures { Gives M.Market R.Ranking S.IntervalSource self.old self.new (answer_told M.Market result)
+            (λ w s. respond_call s request) }
     {
         let response = request.checked()?;
         self.step_clock(response.time);
@@ -37,11 +34,11 @@ impl<M: Market, R: Ranking, S: IntervalSource> Room<M, R, S> {
         Ok(stored)
     }
 
-    // Gives a sealed response that stands a new price and size.
+    /// Gives a sealed response that stands a new price and size, and answers these as they are stored.
+    /// Refusals: 1 to 5, 21, 23, 25 to 27.
     pub fn change(&mut self, request: ChangeRequest) -> Result<StoredTerms, Refusal<M::Fault>>
-        ensures state { state_of M.Market.position S.IntervalSource.position self.new ≡ (change_call {F = M.Market.Told} (state_of M.Market.position S.IntervalSource.position self.old) request).0 }
-        ensures answer { told_by (refusal_told M.Market.told) result ≡ (change_call (state_of M.Market.position S.IntervalSource.position self.old) request).1 }
-        ensures ranking { self.new.ranking ≡ self.old.ranking }
+        ensures { Gives M.Market R.Ranking S.IntervalSource self.old self.new (answer_told M.Market result)
+            (λ w s. change_call s request) }
     {
         let change = request.checked()?;
         self.step_clock(change.time);
@@ -54,11 +51,11 @@ impl<M: Market, R: Ranking, S: IntervalSource> Room<M, R, S> {
         Ok(open.change(&change))
     }
 
-    // Removes a sealed response that stands.
+    /// Removes a sealed response that stands, and answers its terms as they were stored. Refusals: 1, 4, 5,
+    /// 21, 25, 26.
     pub fn withdraw(&mut self, request: WithdrawRequest) -> Result<StoredTerms, Refusal<M::Fault>>
-        ensures state { state_of M.Market.position S.IntervalSource.position self.new ≡ (withdraw_call {F = M.Market.Told} (state_of M.Market.position S.IntervalSource.position self.old) request).0 }
-        ensures answer { told_by (refusal_told M.Market.told) result ≡ (withdraw_call (state_of M.Market.position S.IntervalSource.position self.old) request).1 }
-        ensures ranking { self.new.ranking ≡ self.old.ranking }
+        ensures { Gives M.Market R.Ranking S.IntervalSource self.old self.new (answer_told M.Market result)
+            (λ w s. withdraw_call s request) }
     {
         let withdrawal = request.checked()?;
         self.step_clock(withdrawal.time);

@@ -1,13 +1,12 @@
-// What the open auction does with responses, changes and withdrawals that have passed their checks: which it refuses, and how
-// it stores, changes and removes, with the counts of arrivals and of each member.
+// What the open auction does with responses, changes and withdrawals that have passed their checks: which it
+// refuses, and how it stores, changes and removes, with the counts of arrivals and of each member.
 ghost use Rattle.std.specs.Prelude.{◌≡◌, ◌+◌, true, false, Some, int_lt, nat_le};
 ghost use Rattle.std.specs.Result.{result_err};
 ghost use Rattle.market.specs.Market.{told_by};
 ghost use Rattle.market.specs.Limits.{showable};
-ghost use Rattle.allocation.specs.Table.{own_response};
-ghost use Rattle.room.specs.Checked.{response_given, change_given, withdrawal_given};
+ghost use Rattle.room.specs.Checked.{response_id, response_request, change_request, withdrawal_request};
 ghost use Rattle.room.specs.Refusals.{refusal_number, HoldsNoFault};
-ghost use Rattle.room.specs.Responses.{turned_in, standing_now, response_refusal, change_refusal, plain_below_floor, stored_price, stored_size, terms_told, with_counted, with_response, with_change, with_withdrawal};
+ghost use Rattle.room.specs.Responses.{turned_in, standing_now, response_refusal, change_refusal, plain_below_floor, response_named, stored_price, stored_size, stored_terms, terms_told, with_counted, with_response, with_change, with_withdrawal};
 ghost use Rattle.room.specs.Rooms.{open_values};
 ghost use Rattle.room.specs.State.{used_by};
 ghost use Rattle.room.specs.Storing.{next_terms, TermsPass, ResponsePasses, ChangePasses};
@@ -33,18 +32,21 @@ impl OpenAuction {
     fn used_by(&self, member: Member) -> u32
         ensures { result ≡ used_by member.number self.now.used }
     {
-        self.used[member.place()]
+        self.used[member.index()]
     }
 
     fn is_above(&self, price: Price) -> bool
-        ensures { result ≡ int_lt (open_values self.now).values.initiating (turned_in (open_values self.now) price.cents) }
+        ensures { result
+            ≡ int_lt (open_values self.now).values.initiating
+            (turned_in (open_values self.now) price.cents) }
     {
         self.auction.initiating() < self.turned(price)
     }
 
     // The response of this member with this own number, if it stands, or refusal 25.
     pub(crate) fn standing<F>(&self, of: CheckedId) -> Result<Response, Refusal<F>>
-        ensures answer { told_by refusal_number result ≡ standing_now (own_response of.member.number of.own.number (open_values self.now).values.stood) }
+        ensures answer { told_by refusal_number result
+            ≡ standing_now (response_named (open_values self.now) (response_id of)) }
         ensures no_fault { HoldsNoFault result }
     {
         // No `ok_or`, which would have to drop a refusal, and so a market's fault.
@@ -55,7 +57,8 @@ impl OpenAuction {
 
     // The first refusal that a response earns by the state: 22, 23, 24, 27.
     pub(crate) fn check_response<F>(&self, response: &CheckedResponse) -> Result<(), Refusal<F>>
-        ensures answer { result_err (told_by refusal_number result) ≡ response_refusal (open_values self.now) (response_given response.now) }
+        ensures answer { result_err (told_by refusal_number result)
+            ≡ response_refusal (open_values self.now) (response_request response.now) }
         ensures no_fault { HoldsNoFault result }
     {
         if response.side == self.auction.order().side {
@@ -79,7 +82,8 @@ impl OpenAuction {
         standing: &Response,
         change: &CheckedChange,
     ) -> Result<(), Refusal<F>>
-        ensures answer { result_err (told_by refusal_number result) ≡ change_refusal (open_values self.now) standing.now (change_given change.now) }
+        ensures answer { result_err (told_by refusal_number result)
+            ≡ change_refusal (open_values self.now) standing.now (change_request change.now) }
         ensures no_fault { HoldsNoFault result }
     {
         if standing.kind == Kind::Plain {
@@ -95,7 +99,7 @@ impl OpenAuction {
     }
 
     pub(crate) fn is_plain_below_floor(&self, response: &CheckedResponse) -> bool
-        ensures { result ≡ plain_below_floor (open_values self.now) (response_given response.now) }
+        ensures { result ≡ plain_below_floor (open_values self.now) (response_request response.now) }
     {
         response.kind == Kind::Plain && self.turned(response.price) < self.auction.floor()
     }
@@ -133,19 +137,21 @@ impl OpenAuction {
     #[tactic(auto, using(crate::proofs::Counting::total_most))]
     fn count(&mut self, member: Member) -> u32
         requires { nat_le 10000 (used_by member.number self.old.used) ≡ false }
-        ensures counted { open_values self.new ≡ with_counted (open_values self.old) member.number (open_values self.old).values.stood }
+        ensures counted { open_values self.new
+            ≡ with_counted (open_values self.old) member.number (open_values self.old).values.stood }
         ensures arrival { result ≡ self.old.arrivals + 1 }
     {
-        self.used[member.place()] += 1;
+        self.used[member.index()] += 1;
         self.arrivals += 1;
         self.arrivals
     }
 
-    // The terms of one more response or change of this member, which is counted: as they are told, and as they are stored.
+    // The terms of one more response or change of this member, which is counted: as told, and as stored.
     fn next_terms(&mut self, member: Member, price: Price, size: Size) -> (StoredTerms, NewTerms)
         requires { TermsPass (open_values self.old) member.number price.cents }
-        ensures counted { open_values self.new ≡ with_counted (open_values self.old) member.number (open_values self.old).values.stood }
-        ensures told { result.0 ≡ terms_told (open_values self.old) (stored_price (open_values self.old) price.cents) (stored_size (open_values self.old) size.contracts) }
+        ensures counted { open_values self.new
+            ≡ with_counted (open_values self.old) member.number (open_values self.old).values.stood }
+        ensures told { result.0 ≡ stored_terms (open_values self.old) price.cents size.contracts }
         ensures stored { result.1 ≡ next_terms (open_values self.old) price.cents size.contracts }
     {
         let price = self.stored_price(price);
@@ -162,14 +168,14 @@ impl OpenAuction {
 
     // Stores a response behind the others.
     pub(crate) fn store(&mut self, response: &CheckedResponse) -> StoredTerms
-        requires { ResponsePasses (open_values self.old) (response_given response.now) }
-        ensures after { open_values self.new ≡ with_response (open_values self.old) (response_given response.now) }
-        ensures answer { result ≡ terms_told (open_values self.old) (stored_price (open_values self.old) response.now.price.cents) (stored_size (open_values self.old) response.now.size.contracts) }
+        requires { ResponsePasses (open_values self.old) (response_request response.now) }
+        ensures after { open_values self.new ≡ with_response (open_values self.old) (response_request response.now) }
+        ensures answer { result ≡ stored_terms (open_values self.old) response.now.price.cents response.now.size.contracts }
     {
         let (told, terms) = self.next_terms(response.of.member, response.price, response.size);
-        let _ = self.auction.store(Response {
+        self.auction.store(Response {
             member: response.of.member.number,
-            own: response.of.own.number,
+            own_number: response.of.own_number.number,
             kind: response.kind,
             class: response.class,
             size: terms.size,
@@ -181,12 +187,12 @@ impl OpenAuction {
 
     // Changes the standing response of this member with this own number, and no other.
     pub(crate) fn change(&mut self, change: &CheckedChange) -> StoredTerms
-        requires { ChangePasses (open_values self.old) (change_given change.now) }
-        ensures after { open_values self.new ≡ with_change (open_values self.old) (change_given change.now) }
-        ensures answer { result ≡ terms_told (open_values self.old) (stored_price (open_values self.old) change.now.price.cents) (stored_size (open_values self.old) change.now.size.contracts) }
+        requires { ChangePasses (open_values self.old) (change_request change.now) }
+        ensures after { open_values self.new ≡ with_change (open_values self.old) (change_request change.now) }
+        ensures answer { result ≡ stored_terms (open_values self.old) change.now.price.cents change.now.size.contracts }
     {
         let (told, terms) = self.next_terms(change.of.member, change.price, change.size);
-        let _ = self.auction.change(change.of.id(), terms);
+        self.auction.change(change.of.id(), terms);
         told
     }
 
@@ -196,12 +202,12 @@ impl OpenAuction {
         withdrawal: &CheckedWithdrawal,
         standing: &Response,
     ) -> StoredTerms
-        requires { own_response withdrawal.now.of.member.number withdrawal.now.of.own.number (open_values self.old).values.stood ≡ Some standing.now }
-        ensures after { open_values self.new ≡ with_withdrawal (open_values self.old) (withdrawal_given withdrawal.now) }
+        requires { response_named (open_values self.old) (response_id withdrawal.now.of) ≡ Some standing.now }
+        ensures after { open_values self.new ≡ with_withdrawal (open_values self.old) (withdrawal_request withdrawal.now) }
         ensures answer { result ≡ terms_told (open_values self.old) standing.now.price standing.now.size }
     {
         let told = self.told(standing.price, standing.size);
-        let _ = self.auction.withdraw(withdrawal.of.id());
+        self.auction.withdraw(withdrawal.of.id());
         told
     }
 }
