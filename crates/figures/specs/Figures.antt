@@ -7,10 +7,10 @@ use Rattle.market.specs.declared.leg.LegTick.{LegTick}
 use Rattle.market.specs.declared.quote.Quote.{Quote}
 use Rattle.market.specs.declared.side.Side.TheVariants.{Buy}
 use Rattle.market.specs.Cube.{CubeTicks, cube_start, cube_meaning}
-use Rattle.market.specs.CubeHistory.{after}
+use Rattle.market.specs.CubeHistory.{position_after}
 use Rattle.market.specs.Improve.{improved_quote}
 use Rattle.market.specs.Legs.{legs_meaning, smallest_ratio}
-use Rattle.market.specs.Range.{permitted}
+use Rattle.market.specs.Range.{permitted_range}
 use Rattle.allocation.specs.declared.fill.FillRow.{FillRow}
 use Rattle.allocation.specs.declared.order.Guarantee.{Guarantee}
 use Rattle.allocation.specs.declared.response.Class.{Class}
@@ -38,14 +38,14 @@ leg_ticks_then book = Right (leg_at 1 500 505) ∷ (Right (leg_at 2 100 104) ∷
 -- Buy 1 and sell 2 show 292 and 305; with a book that bids 293 and offers nothing, the CUBE market shows 294 and 304.
 abbrev pub LegsAt292And305Make294And304 : Type 0
 LegsAt292And305Make294And304 =
-    (legs_meaning.shows (after legs_meaning (bought_and_sold 1 2) leg_ticks) ≡ quoted_at 292 305)
-    × (cube_meaning.shows (after cube_meaning (cube_start (bought_and_sold 1 2)) (leg_ticks_then (record { bid = Some (pos 293); offer = None }))) ≡ quoted_at 294 304)
+    (legs_meaning.shows (position_after legs_meaning (bought_and_sold 1 2) leg_ticks) ≡ quoted_at 292 305)
+    × (cube_meaning.shows (position_after cube_meaning (cube_start (bought_and_sold 1 2)) (leg_ticks_then (record { bid = Some (pos 293); offer = None }))) ≡ quoted_at 294 304)
 
 -- Buy 2 and sell 4 at the same quotes show 584 and 610; the smallest ratio, 2, improves that to 586 and 608.
 abbrev pub DoubledRatiosImproveByTwo : Type 0
 DoubledRatiosImproveByTwo =
-    (legs_meaning.shows (after legs_meaning (bought_and_sold 2 4) leg_ticks) ≡ quoted_at 584 610)
-    × (improved_quote (smallest_ratio (bought_and_sold 2 4)) (legs_meaning.shows (after legs_meaning (bought_and_sold 2 4) leg_ticks)) ≡ quoted_at 586 608)
+    (legs_meaning.shows (position_after legs_meaning (bought_and_sold 2 4) leg_ticks) ≡ quoted_at 584 610)
+    × (improved_quote (smallest_ratio (bought_and_sold 2 4)) (legs_meaning.shows (position_after legs_meaning (bought_and_sold 2 4) leg_ticks)) ≡ quoted_at 586 608)
 
 -- Quotes that make legs show 401 and 405, beside a book of 400 and 406.
 abbrev pub derived_ticks : CubeTicks
@@ -54,8 +54,8 @@ derived_ticks = Right (leg_at 1 500 502) ∷ (Right (leg_at 2 97 99) ∷ (Left (
 -- There, an order to buy with a limit of 405 gets the initiating price 404 and the range 402 to 404.
 abbrev pub BookAndLegsPermit402To404 : Type 0
 BookAndLegsPermit402To404 =
-    (legs_meaning.shows (after legs_meaning (bought_and_sold 1 1) (leg_at 1 500 502 ∷ (leg_at 2 97 99 ∷ []))) ≡ quoted_at 401 405)
-    × (permitted Buy (pos 405) (cube_meaning.shows (after cube_meaning (cube_start (bought_and_sold 1 1)) derived_ticks))
+    (legs_meaning.shows (position_after legs_meaning (bought_and_sold 1 1) (leg_at 1 500 502 ∷ (leg_at 2 97 99 ∷ []))) ≡ quoted_at 401 405)
+    × (permitted_range Buy (pos 405) (cube_meaning.shows (position_after cube_meaning (cube_start (bought_and_sold 1 1)) derived_ticks))
     ≡ Ok (record { side = Buy; floor = pos 402; contra = pos 404; initiating = pos 404 }))
 
 -- Through a room: the order opens with an auto-match limit of 402, everybody sees the initiating price of 404, and a response at
@@ -77,7 +77,7 @@ AutoMatchFrom402Through404 =
 -- is 294 to 304.
 abbrev pub RangeOfTheSharedOrder : Type 0
 RangeOfTheSharedOrder =
-    permitted Buy (pos 310) (cube_meaning.shows (after cube_meaning (cube_start (bought_and_sold 1 2)) (leg_ticks_then (record { bid = Some (pos 293); offer = None }))))
+    permitted_range Buy (pos 310) (cube_meaning.shows (position_after cube_meaning (cube_start (bought_and_sold 1 2)) (leg_ticks_then (record { bid = Some (pos 293); offer = None }))))
     ≡ Ok (record { side = Buy; floor = pos 294; contra = pos 304; initiating = pos 304 })
 
 -- A sealed response with own number 1: member, class, size and price.

@@ -3,7 +3,7 @@
 
 ghost use Rattle.figures.specs.Figures.{WorkedFigures};
 
-// Its contract is the list of figures; it does nothing.
+/// Its contract is the list of figures; it does nothing.
 pub fn figures_hold()
     ensures { WorkedFigures }
 {}

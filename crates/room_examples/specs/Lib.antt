@@ -1,2 +1,3 @@
--- The interval source of these examples.
+-- The interval source of these examples, and an auction by a room's own methods.
 pub mod Counting
+pub mod Collected

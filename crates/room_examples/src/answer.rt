@@ -4,10 +4,11 @@ use session::answer::Answer;
 use session::closed::{Closed, ClosedAuction};
 use std::{fmt, io};
 
+/// An answer as it is printed.
 #[derive(Clone, Copy)]
-pub struct Told<'a>(pub &'a TouchAnswer);
+pub struct AnswerText<'a>(pub &'a TouchAnswer);
 
-impl fmt::Display for Told<'_> {
+impl fmt::Display for AnswerText<'_> {
     fn fmt<W: fmt::Write>(&self, f: &mut fmt::Formatter<W>) -> fmt::Result {
         match self.0 {
             Answer::Opened(claim) => write!(f, "claim {} of room {}", claim.auction, claim.room),
@@ -26,15 +27,17 @@ impl fmt::Display for Told<'_> {
     }
 }
 
+/// The answer is a refusal of this number.
 pub fn is_refusal(answer: &TouchAnswer, number: u8) -> bool {
     matches!(answer, Answer::Refused(refusal) if refusal.number() == number)
 }
 
+/// The answer is a stored price and size.
 pub fn is_stored(answer: &TouchAnswer) -> bool {
     matches!(answer, Answer::Stored(_))
 }
 
-// What stands behind an answer: nothing where it is as the rules have it.
+/// What stands behind an answer: nothing where it is as the rules have it.
 pub fn verdict(right: bool) -> &'static str {
     if right {
         ""
@@ -43,6 +46,7 @@ pub fn verdict(right: bool) -> &'static str {
     }
 }
 
+/// Prints an auction that was collected at the close, if there was one.
 pub fn print_closed(rt: &HostRuntime, closed: &Option<ClosedAuction>) -> io::Result<()> {
     let Some(auction) = closed else {
         return Ok(());
@@ -55,6 +59,7 @@ pub fn print_closed(rt: &HostRuntime, closed: &Option<ClosedAuction>) -> io::Res
     )
 }
 
+/// Prints the auctions that were collected at the close.
 pub fn print_auctions<M, R, S>(rt: &HostRuntime, closed: &Closed<M, R, S>) -> io::Result<()> {
     print_closed(rt, &closed.first)?;
     print_closed(rt, &closed.second)

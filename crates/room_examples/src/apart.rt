@@ -17,7 +17,8 @@ use session::desk::Desk;
 use std::alloc::{AllocError, Global};
 use std::io;
 
-// A quote and three openings: the second ends the auction of the first, and the third is refused, since that one waits.
+// A quote and three openings: the second ends the auction of the first, and the third is refused, since that
+// one waits.
 fn calls(heap: Global) -> Result<Vec<TouchCall>, AllocError> {
     let mut calls = Vec::with_capacity(heap, 4)?;
     calls.push_reserved(quoting());
@@ -27,7 +28,8 @@ fn calls(heap: Global) -> Result<Vec<TouchCall>, AllocError> {
     Ok(calls)
 }
 
-// What is read when a day is done: the auctions that its room still held, and how many intervals its source has drawn.
+// What is read when a day is done: the auctions that its room still held, and how many intervals its source
+// has drawn.
 #[derive(Drop)]
 struct DayRead {
     first: Option<ClosedAuction>,
@@ -113,6 +115,7 @@ fn ask_twice(rt: &HostRuntime, source: FixedInterval) -> io::Result<()> {
     )
 }
 
+/// Takes rooms apart.
 pub fn work(rt: &HostRuntime) -> io::Result<()> {
     println!(rt;
         "A quote and three openings, over a source that counts its draws and is read at the end:"

@@ -18,14 +18,18 @@ use room::claim::Claim;
 use room::refusal::Refusal;
 use std::io;
 
+/// A room over a touch.
 pub type TouchRoom = Room<Touch, EarlierArrival, FixedInterval>;
 
-// A room in which an auction is open, its first, and the claim to it.
+/// A room in which an auction is open, its first, and the claim to it.
 pub struct Opened {
+    /// The room.
     pub room: TouchRoom,
+    /// The claim to its auction.
     pub claim: Claim,
 }
 
+/// A room of this number with its first auction.
 pub fn open_in(number: u32, source: FixedInterval) -> Opened
     ensures number { result.room.number ≡ number }
     ensures claim { claim_numbers result.claim ≡ claim_to number 1 }
@@ -37,7 +41,7 @@ pub fn open_in(number: u32, source: FixedInterval) -> Opened
     Opened { room, claim }
 }
 
-// Halts the room and collects its auction.
+/// Halts the room and collects its auction.
 pub fn settle<M: Market, R: Ranking, S: IntervalSource>(
     room: &mut Room<M, R, S>,
     claim: Claim,
@@ -61,6 +65,7 @@ fn hand_in(room: &mut TouchRoom, claim: Claim) -> (Refusal<Fault>, Claim)
     room.collect(claim, &mut rows).unwrap_err()
 }
 
+/// Prints what a collecting told.
 pub fn show_collected(rt: &HostRuntime, told: Collection) -> io::Result<()> {
     println!(rt;
         "    collected, cause {}, {} row",
@@ -77,11 +82,11 @@ fn show_refused(rt: &HostRuntime, refusal: &Refusal<Fault>) -> io::Result<()> {
     )
 }
 
-// A claim of room 1, handed in to room 2 while an auction of its number is open there, and once that one was collected; and then
-// to its own room.
+// A claim of room 1, handed in to room 2 while an auction of its number is open there, and once that one was
+// collected; and then to its own room.
 fn in_another_room(rt: &HostRuntime, source: FixedInterval) -> io::Result<()> {
     let Opened { room, claim } = open_in(1, source);
-    let mut own = room;
+    let mut one = room;
     let Opened {
         room,
         claim: its_claim,
@@ -90,7 +95,7 @@ fn in_another_room(rt: &HostRuntime, source: FixedInterval) -> io::Result<()> {
     let (while_open, claim) = hand_in(&mut other, claim);
     let its_told = settle(&mut other, its_claim);
     let (afterwards, claim) = hand_in(&mut other, claim);
-    let told = settle(&mut own, claim);
+    let told = settle(&mut one, claim);
     show_refused(rt, &while_open)?;
     show_collected(rt, its_told)?;
     show_refused(rt, &afterwards)?;
@@ -112,6 +117,7 @@ fn in_a_room_of_its_number(rt: &HostRuntime, source: FixedInterval) -> io::Resul
     show_collected(rt, by_first)
 }
 
+/// Hands claims in to rooms of other numbers and of the same.
 pub fn work(rt: &HostRuntime) -> io::Result<()> {
     let Ok(source) = FixedInterval::new(100) else {
         return println!(rt; "no interval");

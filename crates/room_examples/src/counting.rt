@@ -11,6 +11,7 @@ pub struct CountingSource {
 }
 
 impl CountingSource {
+    /// A source that has drawn nothing.
     pub fn new() -> Self
         ensures { result.drawn ≡ 0 }
     {

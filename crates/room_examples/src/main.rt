@@ -1,10 +1,11 @@
-// Rooms in code, at bounds that no script reaches, with claims of other rooms, over whole runs, and taken apart; each answer is
-// held to what the rules give.
+// Rooms in code, at bounds that no script reaches, with claims of other rooms, over whole runs, and taken
+// apart; each answer is held to what the rules give.
 #![tactic(auto)]
 
 mod answer;
 mod apart;
 mod claims;
+mod collected;
 mod counting;
 mod made;
 mod openings;
@@ -20,5 +21,6 @@ fn main(rt: HostRuntime) -> io::Result<()> {
     claims::work(&rt)?;
     runs::work(&rt)?;
     apart::work(&rt)?;
-    turns::work(&rt)
+    turns::work(&rt)?;
+    collected::work(&rt)
 }

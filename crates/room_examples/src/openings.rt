@@ -1,5 +1,5 @@
 // A million auctions in one room, and one more.
-use crate::answer::{Told, is_refusal, print_auctions, verdict};
+use crate::answer::{AnswerText, is_refusal, print_auctions, verdict};
 use crate::made::{TouchDesk, collecting, desk, opening, quoting};
 use session::answer::Answer;
 use std::alloc::{AllocError, Global};
@@ -35,11 +35,12 @@ fn open_all(rt: &HostRuntime, desk: &mut TouchDesk) -> io::Result<()> {
     let answer = desk.call(heap, opening())?;
     println!(rt;
         "  one more: {}{}",
-        Told(&answer),
+        AnswerText(&answer),
         verdict(is_refusal(&answer, 17))
     )
 }
 
+/// Opens a million auctions, and one more.
 pub fn work(rt: &HostRuntime) -> io::Result<()> {
     println!(rt; "A million auctions, each ended by the next and then collected:")?;
     let Some(mut desk) = desk(rt.alloc()) else {

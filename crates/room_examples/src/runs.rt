@@ -4,7 +4,7 @@ ghost use Rattle.room.specs.Rooms.{claim_numbers};
 ghost use Rattle.session.specs.declared.call.Call.TheVariants.{Collect};
 ghost use Rattle.session.specs.Claims.{claim_to};
 
-use crate::answer::{Told, verdict};
+use crate::answer::{AnswerText, verdict};
 use crate::claims::{Opened, open_in, settle, show_collected};
 use crate::made::{TouchAnswer, TouchCall, collecting_in};
 use allocation::ranking::EarlierArrival;
@@ -70,11 +70,12 @@ fn show_answers(rt: &HostRuntime, answers: &Option<Vec<TouchAnswer>>) -> io::Res
         return println!(rt; "    memory was wanting{}", verdict(false));
     };
     for answer in list.iter() {
-        println!(rt; "    {}", Told(answer))?;
+        println!(rt; "    {}", AnswerText(answer))?;
     }
     Ok(())
 }
 
+/// Hands a claim of another room in to a run.
 pub fn work(rt: &HostRuntime) -> io::Result<()> {
     let Ok(source) = FixedInterval::new(100) else {
         return println!(rt; "no interval");
@@ -84,10 +85,10 @@ pub fn work(rt: &HostRuntime) -> io::Result<()> {
     )?;
     let heap = rt.alloc();
     let calls = calls(heap)?;
-    let places = Vec::with_capacity(heap, 1)?;
+    let memory = Vec::with_capacity(heap, 1)?;
     let Opened { room, claim } = open_in(1, source);
     let mut own = room;
-    let mut purse = places;
+    let mut purse = memory;
     purse.push_reserved(claim);
     let (answers, claim) = run_with(heap, calls, purse, source);
     let told = settle(&mut own, claim);

@@ -5,7 +5,7 @@ ghost use Rattle.room.specs.Refusals.{refusal_told};
 ghost use Rattle.room.specs.Rooms.{world_of};
 ghost use Rattle.session.specs.declared.call.Call.TheVariants.{Halt, Look};
 ghost use Rattle.session.specs.Laws.{LawsOfRun};
-ghost use Rattle.session.specs.Runs.{Accepted, Looked, answered, run};
+ghost use Rattle.session.specs.Runs.{Accepted, Looked, answer_of_result, run};
 
 use crate::answer::verdict;
 use crate::made::ROOM;
@@ -23,8 +23,11 @@ use std::io;
 /// A room, and what a halt and then a look were answered.
 #[derive(Drop)]
 pub struct HaltedRoom<M, R, S, F> {
+    /// The room afterwards.
     pub room: Room<M, R, S>,
+    /// What the halt was answered.
     pub halted: Result<(), Refusal<F>>,
+    /// What the look told.
     pub view: View,
 }
 
@@ -35,8 +38,16 @@ pub fn halted_room<M: Market, R: Ranking, S: IntervalSource>(
     source: S,
     time: u64,
 ) -> HaltedRoom<M, R, S, M::Fault>
-    ensures answers { map (λ m. m.answer) (run (world_of M.Market.meaning S.IntervalSource.meaning (R.Ranking.ahead ranking)) 1 (M.Market.position market) (S.IntervalSource.position source) (Halt time ∷ (Look ∷ []))) ≡ answered (λ _. Accepted) (told_by (refusal_told M.Market.told) result.halted) ∷ (Looked result.view ∷ []) }
-    ensures laws { LawsOfRun (world_of M.Market.meaning S.IntervalSource.meaning (R.Ranking.ahead ranking)) 1 (M.Market.position market) (S.IntervalSource.position source) (Halt time ∷ (Look ∷ [])) }
+    ensures answers { map (λ m. m.answer) (run
+        (world_of M.Market.meaning S.IntervalSource.meaning (R.Ranking.ahead ranking))
+        1 (M.Market.position market) (S.IntervalSource.position source)
+        (Halt time ∷ (Look ∷ [])))
+        ≡ answer_of_result (λ _. Accepted) (told_by (refusal_told M.Market.told) result.halted)
+        ∷ (Looked result.view ∷ []) }
+    ensures laws { LawsOfRun
+        (world_of M.Market.meaning S.IntervalSource.meaning (R.Ranking.ahead ranking))
+        1 (M.Market.position market) (S.IntervalSource.position source)
+        (Halt time ∷ (Look ∷ [])) }
 {
     calls_in_turn_are_a_run::<M, S, R>();
     let mut room = Room::new(ROOM, market, ranking, source);
@@ -45,6 +56,7 @@ pub fn halted_room<M: Market, R: Ranking, S: IntervalSource>(
     HaltedRoom { room, halted, view }
 }
 
+/// Halts a room over a touch and looks at it.
 pub fn work(rt: &HostRuntime) -> io::Result<()> {
     let Ok(source) = FixedInterval::new(100) else {
         return println!(rt; "no interval");

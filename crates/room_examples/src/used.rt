@@ -1,5 +1,5 @@
 // The 10,000 responses and changes of a member, and one more.
-use crate::answer::{Told, is_refusal, is_stored, print_auctions, verdict};
+use crate::answer::{AnswerText, is_refusal, is_stored, print_auctions, verdict};
 use crate::made::{
     TouchCall, TouchDesk, changing, desk, opening, quoting, responding, withdrawing,
 };
@@ -33,7 +33,7 @@ fn show_refused(
     let answer = desk.call(rt.alloc(), call)?;
     println!(rt;
         "  {name}: {}{}",
-        Told(&answer),
+        AnswerText(&answer),
         verdict(is_refusal(&answer, 27))
     )
 }
@@ -47,7 +47,7 @@ fn show_stored(
     let answer = desk.call(rt.alloc(), call)?;
     println!(rt;
         "  {name}: {}{}",
-        Told(&answer),
+        AnswerText(&answer),
         verdict(is_stored(&answer))
     )
 }
@@ -65,6 +65,7 @@ fn use_all(rt: &HostRuntime, desk: &mut TouchDesk) -> io::Result<()> {
     show_refused(rt, desk, "a response in its place", responding(2, 1))
 }
 
+/// Uses up a member's responses and changes.
 pub fn work(rt: &HostRuntime) -> io::Result<()> {
     println!(rt; "A member's response, changed 9,999 times:")?;
     let Some(mut desk) = desk(rt.alloc()) else {

@@ -1,21 +1,20 @@
 -- Closing a desk. Where no auction is open, the first of the claims to a room's auctions collects the auction that has waited
 -- longest, and the others are the claims to the rest.
 use Rattle.std.specs.Result.{result_map_both}
-use Rattle.std.proofs.Common.{Err, IsOk, ◌≡◌, ℕ, Bool, true, false, cond, not, eqb, List, [], ◌∷◌, ◌++◌, map, length, get_or, Some, None, Ok, Option, Result, sym, refl, ap, ◌∙◌, arith, Vec, vec_items, vec_len, drop}
+use Rattle.std.proofs.Common.{Err, IsOk, ◌≡◌, ℕ, ◌≤◌, Bool, true, false, cond, not, eqb, List, [], ◌∷◌, ◌++◌, map, length, get_or, Some, None, Ok, Option, Result, sym, refl, ap, ◌∙◌, arith, Vec, vec_items, vec_len, take, drop}
 use Rattle.std.proofs.lemmas.Bool.Decides.{nat_tests}
 use Rattle.std.proofs.lemmas.List.{length-map}
+use Rattle.std.proofs.Math.Seq.{take-append_seam}
 use Rattle.std.specs.List.{remove}
 use Rattle.room.specs.declared.answers.ClaimNumbers.{ClaimNumbers}
-use Rattle.room.specs.Collecting.{CollectionTold, collectable, collect_call, collect_rows, fill_rows, waiting_now, written}
+use Rattle.room.specs.Collecting.{CollectionTold, collectable, collect_call, collect_rows, fill_rows, waiting_now, written_rows}
 use Rattle.room.specs.Refusals.{RefusalTold, refuse, unless, outcome}
-use Rattle.room.specs.State.{EndedValues, RoomState, is_number, numbered, without_number, with_waiting}
+use Rattle.room.specs.State.{EndedValues, RoomState, is_number, waiting_auction, without_number, with_waiting}
 use Rattle.room.specs.World.{World}
 use Rattle.room.proofs.Tests.{true_false}
-use Rattle.room.specs.declared.ended.EndedAuction.{EndedAuction}
-use Rattle.room.specs.Rooms.{listed}
 use Rattle.session.specs.Claims.{claim_to, claims_to, number_of_open}
 use Rattle.session.specs.Closed.{first_of}
-use Rattle.session.specs.SessionState.{given}
+use Rattle.session.specs.SessionState.{answers_there}
 
 -- the first and the rest of a list
 pub first_is : {X : Type 0} (x y : X) (xs ys : List X) → x ∷ xs ≡ y ∷ ys → (x ≡ y) × (xs ≡ ys)
@@ -57,11 +56,11 @@ module _ {P T F Q : Type 0} (w : World P T F Q) (s : RoomState P Q) (c : ClaimNu
       let room = ap (λ (k : ClaimNumbers). eqb k.room s.number) both.0 ∙ same s.number in
       let opened = ap (is_number c.auction) n in
       let first = ap (λ (k : ClaimNumbers). eqb x.number k.auction) both.0 ∙ same x.number in
-      let waits : numbered c.auction s.waiting ≡ Some x = ap (numbered c.auction) e ∙ ap (λ (b : Bool). cond b (Some x) (numbered c.auction xs)) first in
+      let waits : waiting_auction c.auction s.waiting ≡ Some x = ap (waiting_auction c.auction) e ∙ ap (λ (b : Bool). cond b (Some x) (waiting_auction c.auction xs)) first in
       let others : without_number c.auction s.waiting ≡ xs = ap (without_number c.auction) e ∙ ap (λ (b : Bool). cond b xs (x ∷ without_number c.auction xs)) first in
       let y : collectable s c 129 ≡ Ok x =
-      ap (λ (b : Bool). found b (is_number c.auction s.current) (numbered c.auction s.waiting)) room
-      ∙ ap (λ (b : Bool). found true b (numbered c.auction s.waiting)) opened ∙ ap (found true false) waits in
+      ap (λ (b : Bool). found b (is_number c.auction s.current) (waiting_auction c.auction s.waiting)) room
+      ∙ ap (λ (b : Bool). found true b (waiting_auction c.auction s.waiting)) opened ∙ ap (found true false) waits in
       record {
         auction = x;
         rest = xs;
@@ -69,7 +68,7 @@ module _ {P T F Q : Type 0} (w : World P T F Q) (s : RoomState P Q) (c : ClaimNu
         claim_is = both.0;
         state_is = ap (λ r. (done r).0) y ∙ ap (λ l. with_waiting l s) others;
         answer_is = ap (λ r. (done r).1) y;
-        rows_are = ap (written w) y;
+        rows_are = ap (written_rows w) y;
         claims_left = both.1 ∙ sym (ap (λ o. map (claim_to s.number) (map (λ (e : EndedValues). e.number) xs ++ number_of_open o)) n);
       }
 
@@ -77,6 +76,10 @@ module _ {P T F Q : Type 0} (w : World P T F Q) (s : RoomState P Q) (c : ClaimNu
 pub ok_as_told : {X Y E F : Type 0} (f : X → Y) (g : E → F) (r : Result X E) → IsOk (result_map_both f g r) → IsOk r
 ok_as_told f g (Ok x) h = h
 ok_as_told f g (Err e) h = h
+
+-- rows that are written over the head of a list are at its head
+pub head_written : {X : Type 0} (fills rows list written : List X) → written ≡ rows ++ drop (length rows) list → rows ≡ fills → take (length fills) written ≡ fills
+head_written fills rows list written h e = ap (take (length fills)) (h ∙ ap (λ l. l ++ drop (length l) list) e) ∙ take-append_seam fills (drop (length fills) list)
 
 -- taking the first out of a list
 pub first_taken : {X Y : Type 0} (f : X → Y) (xs : List X) (x : X) → (length xs ≡ 0 → ⊥) → x ≡ get_or xs 0 x → f x ∷ map f (remove xs 0) ≡ map f xs
@@ -86,27 +89,25 @@ first_taken f (y ∷ ys) x h e = ap (λ z. f z ∷ map f ys) e
 pub some_there : {X Z : Type 0} (v : Vec X Z) (empty : Bool) → empty ≡ eqb (vec_len v) 0 → empty ≡ false → length (vec_items v) ≡ 0 → ⊥
 some_there v empty e f h = true_false (sym (ap (λ n. eqb n 0) (v.ok.0 ∙ h)) ∙ sym e ∙ f)
 
--- Of the two that can wait, both are told, and none is left.
-both_told : {X : Type 0} (f : EndedValues → X) (a b : Option EndedAuction)
-    → given (first_of (map f (listed a b)) ∷ (first_of (map f (drop 1 (listed a b))) ∷ [])) ≡ map f (listed a b)
-both_told f None None = refl
-both_told f None (Some b) = refl
-both_told f (Some a) None = refl
-both_told f (Some a) (Some b) = refl
+-- Where two wait at most, both are told, and none is left.
+both_told : {X : Type 0} (f : EndedValues → X) (es : List EndedValues) → length es ≤ 2 → answers_there (first_of (map f es) ∷ (first_of (map f (drop 1 es)) ∷ [])) ≡ map f es
+both_told f [] h = refl
+both_told f (a ∷ []) h = refl
+both_told f (a ∷ (b ∷ [])) h = refl
+both_told f (a ∷ (b ∷ (c ∷ es))) h = absurd (omega arith)
 
-pub two_told : {X : Type 0} (f : EndedValues → X) (a b : Option EndedAuction) (x y : Option X) → x ≡ first_of (map f (listed a b)) → y ≡ first_of (map f (drop 1 (listed a b)))
-    → given (x ∷ (y ∷ [])) ≡ map f (listed a b)
-two_told f a b x y h k = ap (λ z. given (z ∷ (y ∷ []))) h ∙ ap (λ z. given (first_of (map f (listed a b)) ∷ (z ∷ []))) k ∙ both_told f a b
+pub two_told : {X : Type 0} (f : EndedValues → X) (es : List EndedValues) (x y : Option X) → length es ≤ 2 → x ≡ first_of (map f es) → y ≡ first_of (map f (drop 1 es)) → answers_there (x ∷ (y ∷ [])) ≡ map f es
+two_told f es x y few h k = ap (λ z. answers_there (z ∷ (y ∷ []))) h ∙ ap (λ z. answers_there (first_of (map f es) ∷ (z ∷ []))) k ∙ both_told f es few
 
-none_after_two : (a b : Option EndedAuction) → drop 1 (drop 1 (listed a b)) ≡ []
-none_after_two None None = refl
-none_after_two None (Some b) = refl
-none_after_two (Some a) None = refl
-none_after_two (Some a) (Some b) = refl
+none_after_two : (es : List EndedValues) → length es ≤ 2 → drop 1 (drop 1 es) ≡ []
+none_after_two [] h = refl
+none_after_two (a ∷ []) h = refl
+none_after_two (a ∷ (b ∷ [])) h = refl
+none_after_two (a ∷ (b ∷ (c ∷ es))) h = absurd (omega arith)
 
 -- a room that two were collected in
-pub emptied : {P Q : Type 0} (a b : Option EndedAuction) (s t u : RoomState P Q) → s.waiting ≡ listed a b → t ≡ with_waiting (drop 1 s.waiting) s → u ≡ with_waiting (drop 1 t.waiting) t → u ≡ with_waiting [] s
-emptied {P} {Q} a b s t u l h k = k ∙ ap (λ (v : RoomState P Q). with_waiting (drop 1 v.waiting) v) h ∙ ap (λ l. with_waiting l s) (ap (λ l. drop 1 (drop 1 l)) l ∙ none_after_two a b)
+pub emptied : {P Q : Type 0} (s t u : RoomState P Q) → length s.waiting ≤ 2 → t ≡ with_waiting (drop 1 s.waiting) s → u ≡ with_waiting (drop 1 t.waiting) t → u ≡ with_waiting [] s
+emptied {P} {Q} s t u few h k = k ∙ ap (λ (v : RoomState P Q). with_waiting (drop 1 v.waiting) v) h ∙ ap (λ l. with_waiting l s) (none_after_two s.waiting few)
 
 -- A room that holds no open auction and none that waits: no claim is left.
 pub none_left : {P Q : Type 0} (s : RoomState P Q) → s.current ≡ None → s.waiting ≡ [] → claims_to s ≡ []

@@ -5,13 +5,13 @@ use Rattle.std.proofs.lemmas.Bool.Decides.{nat_tests}
 use Rattle.allocation.specs.declared.fill.FillRow.{FillRow}
 use Rattle.room.specs.declared.answers.ClaimNumbers.{ClaimNumbers}
 use Rattle.room.specs.declared.claim.Claim.{Claim}
-use Rattle.room.specs.Collecting.{CollectionTold, collectable, collect_call, collect_rows, fill_rows, written, waiting_now}
+use Rattle.room.specs.Collecting.{CollectionTold, collectable, collect_call, collect_rows, fill_rows, written_rows, waiting_now}
 use Rattle.room.specs.Refusals.{RefusalTold, by_number, refuse, unless, outcome}
 use Rattle.room.specs.Rooms.{collected_answer}
-use Rattle.room.specs.State.{EndedValues, RoomState, is_number, numbered, with_waiting, without_number}
+use Rattle.room.specs.State.{EndedValues, RoomState, is_number, waiting_auction, with_waiting, without_number}
 use Rattle.room.specs.World.{World}
 use Rattle.session.specs.declared.call.Call.TheVariants.{Collect}
-use Rattle.session.specs.Runs.{Answer, Collected, Refused, answered, step}
+use Rattle.session.specs.Runs.{Answer, Collected, Refused, answer_of_result, step}
 use Rattle.session.specs.SessionState.{SessionState, session_of, session_after, session_answer}
 use Rattle.session.specs.Purse.{holds, purse_left, without_claim}
 use Rattle.session.proofs.Purses.{without_none}
@@ -25,11 +25,11 @@ module _ {P T F Q : Type 0} (w : World P T F Q) (s : RoomState P Q) (c : ClaimNu
   -- of two lists that are both long enough, or both too short, one serves for the other
   pub serves : (n m : ℕ) → ltb n 129 ≡ ltb m 129 → step w s (Collect c n) ≡ step w s (Collect c m)
   serves n m h =
-      ap (λ (y : Result EndedValues ℕ). ((told_of y).0, answered (λ k. Collected k (written w y)) (told_of y).1))
-      (ap (λ (b : Bool). unless (refuse b 6 None) (unless (refuse (not (eqb c.room s.number)) 42 (refuse (is_number c.auction s.current) 41 None)) (waiting_now (numbered c.auction s.waiting)))) h)
+      ap (λ (y : Result EndedValues ℕ). ((told_of y).0, answer_of_result (λ k. Collected k (written_rows w y)) (told_of y).1))
+      (ap (λ (b : Bool). unless (refuse b 6 None) (unless (refuse (not (eqb c.room s.number)) 42 (refuse (is_number c.auction s.current) 41 None)) (waiting_now (waiting_auction c.auction s.waiting)))) h)
 
   accepted_by : (y : Result EndedValues ℕ) (claim : Claim) (k : CollectionTold) → Ok k ≡ collected_answer claim (told_of y).1
-      → (answered (λ k. Collected k (written w y)) (told_of y).1 ≡ Collected k (written w y)) × (k.count ≡ length (written w y))
+      → (answer_of_result (λ k. Collected k (written_rows w y)) (told_of y).1 ≡ Collected k (written_rows w y)) × (k.count ≡ length (written_rows w y))
   accepted_by (Ok e) claim k h =
       let same : k ≡ record { count = length (fill_rows w e); cause = e.cause } = cc in
       (ap (λ x. Collected x (fill_rows w e)) (sym same), ap (λ (x : CollectionTold). x.count) same)
@@ -41,7 +41,7 @@ module _ {P T F Q : Type 0} (w : World P T F Q) (s : RoomState P Q) (c : ClaimNu
   accepted n claim k h = accepted_by (collectable s c n) claim k h
 
   refused_by : (y : Result EndedValues ℕ) (claim back : Claim) (e : RefusalTold F) → Err (e, back) ≡ collected_answer claim (told_of y).1
-      → (answered (λ k. Collected k (written w y)) (told_of y).1 ≡ Refused e) × (back ≡ claim)
+      → (answer_of_result (λ k. Collected k (written_rows w y)) (told_of y).1 ≡ Refused e) × (back ≡ claim)
   refused_by (Ok x) claim back e h = ok_err _ (e, back) (sym h)
   refused_by (Err x) claim back e h =
       let pair : (e, back) ≡ (by_number x, claim) = cc in

@@ -66,7 +66,7 @@ module _ {M R S P T D F Q : Type 0} (world : R → World P T F Q) (position : M 
             ∙ ap (λ l. session_answers w first past.calls ++ l) (did.answers ∙ ap (λ t. session_answers w t (calls_of cs)) (sym end))
             ∙ sym (answers_behind w first past.calls (calls_of cs));
         room = sym (ap (λ (s : SessionState P Q). s.room) last);
-        claims = (last_desk d cs).all_held ∙ sym (ap (λ (s : SessionState P Q). s.purse) last);
+        claims = (last_desk d cs).every_claim ∙ sym (ap (λ (s : SessionState P Q). s.purse) last);
       }) in
       record {
         promise = promise;

@@ -6,6 +6,7 @@ pub mod Apart
 pub mod Shapes
 mod Waiting
 pub mod Lives
+pub mod Moves
 pub mod Elsewhere
 mod Fates
 mod Counted

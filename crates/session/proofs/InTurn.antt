@@ -13,7 +13,7 @@ use Rattle.room.specs.World.{World, Terms}
 use Rattle.session.specs.declared.call.Call.{Call}
 use Rattle.session.specs.declared.call.Call.TheVariants.{Open, Respond, Change, Withdraw, Tick, Halt, Resume, Clock, Look, Collect}
 use Rattle.session.specs.InTurn.{MethodCall, state_now, ByContract, collecting_told, MadeByContract, InTurn, moment_of, CallsInTurnAreARun}
-use Rattle.session.specs.Runs.{Answer, Looked, Collected, Moment, answered, answering, clock_stepped, given_time, input_refusal, moment, run_from, step}
+use Rattle.session.specs.Runs.{Answer, Looked, Collected, Moment, answer_of_result, state_and_answer, after_clock_step, given_time, input_refusal, moment, run_from, step}
 use Rattle.session.proofs.Collecting.{accepted, refused}
 use Rattle.session.proofs.RunLaws.{laws_of_run}
 use Rattle.room.specs.Refusals.{RefusalTold}
@@ -25,8 +25,8 @@ module _ {M R S P T D F Q : Type 0} (world : R → World P T F Q) (position : M 
     pub ranking : after.ranking ≡ before.ranking
 
   by_contract : {Y X : Type 0} (tells : Result Y (Refusal D) → Result X (RefusalTold F)) (before after : Room M R S) (meant : RoomState P Q × Result X (RefusalTold F)) (kind : X → Answer F) (a : Answer F)
-      → ByContract world position source fault tells before after meant kind a → (state_now world position source fault after, a) ≡ answering kind meant
-  by_contract tells before after meant kind a h = ap (λ s. (s, a)) h.state ∙ ap (λ b. (meant.0, b)) (h.told ∙ ap (answered kind) h.answer)
+      → ByContract world position source fault tells before after meant kind a → (state_now world position source fault after, a) ≡ state_and_answer kind meant
+  by_contract tells before after meant kind a h = ap (λ s. (s, a)) h.state ∙ ap (λ b. (meant.0, b)) (h.told ∙ ap (answer_of_result kind) h.answer)
 
   -- what a collecting tells
   gathers : (w : World P T F Q) (s : RoomState P Q) (claim : Claim) (n : ℕ) (c : ClaimNumbers) (result : Result CollectionTold (RefusalTold F × Claim)) (rows after : List FillRow)
@@ -69,7 +69,7 @@ module _ {M R S P T D F Q : Type 0} (world : R → World P T F Q) (position : M 
       let at : RoomState P Q → RoomState P Q × Answer F → Moment P T F Q = λ before y. record {
         call = c.call;
         before = before;
-        stepped = clock_stepped (input_refusal c.call) (given_time c.call) before;
+        stepped = after_clock_step (input_refusal c.call) (given_time c.call) before;
         after = y.0;
         answer = y.1;
       } in

@@ -33,17 +33,17 @@ input_reason_is (Respond x) =
     (same_check _ _ 2 _ _ (beyond_is x.price)
     (same_check _ _ 3 _ _ (outside_is 1 100000 x.size)
     (same_check _ _ 4 _ _ (outside_is 1 16 x.member)
-    (same_check _ _ 5 None None (outside_is 1 4 x.own) refl))))
+    (same_check _ _ 5 None None (outside_is 1 4 x.own_number) refl))))
 input_reason_is (Change x) =
     same_check _ _ 1 _ _ refl
     (same_check _ _ 2 _ _ (beyond_is x.price)
     (same_check _ _ 3 _ _ (outside_is 1 100000 x.size)
     (same_check _ _ 4 _ _ (outside_is 1 16 x.member)
-    (same_check _ _ 5 None None (outside_is 1 4 x.own) refl))))
+    (same_check _ _ 5 None None (outside_is 1 4 x.own_number) refl))))
 input_reason_is (Withdraw x) =
     same_check _ _ 1 _ _ refl
     (same_check _ _ 4 _ _ (outside_is 1 16 x.member)
-    (same_check _ _ 5 None None (outside_is 1 4 x.own) refl))
+    (same_check _ _ 5 None None (outside_is 1 4 x.own_number) refl))
 input_reason_is _ = refl
 
 -- a call fails an input check exactly if it is refused for one

@@ -1,9 +1,9 @@
 -- What a room holds after a history, and what the history tells: the same.
 use Rattle.std.proofs.Common.{◌≡◌, ℕ, ◌≤◌, false, List, length, is_some, Some, None, Option}
-use Rattle.allocation.specs.Auction.{told_of}
+use Rattle.allocation.specs.Auction.{stood_responses}
 use Rattle.room.specs.Clock.{due}
 use Rattle.room.specs.Openings.{stored_order}
-use Rattle.room.specs.State.{OpenValues, RoomState, is_number, numbered, used_by}
+use Rattle.room.specs.State.{OpenValues, RoomState, is_number, waiting_auction, used_by}
 use Rattle.room.specs.World.{World}
 use Rattle.room.proofs.Sound.{Sound}
 use Rattle.session.specs.History.{Exchange, Story, deadline_of, time_then, halted_then, openings, market_at, source_at, story_of, open_story, going_on, waits_then, waiting_then}
@@ -14,7 +14,7 @@ pub record Matches (s : Story) (a : OpenValues) : Type 0 where
   pub order_is : a.values.order ≡ stored_order s.opening.range.floor s.opening.order
   pub initiating_is : a.values.initiating ≡ s.opening.range.initiating
   pub floor_is : a.values.floor ≡ s.floor
-  pub stood_is : told_of a.values ≡ s.stood
+  pub stood_is : stood_responses a.values ≡ s.stood
   pub deadline_is : a.deadline ≡ deadline_of s.opening
   pub arrivals_is : a.arrivals ≡ length s.storers
   pub used_is : (member : ℕ) → 1 ≤ member → member ≤ 16 → used_by member a.used ≡ stored_by member s.storers
@@ -36,5 +36,5 @@ pub record Linked {P T F Q : Type 0} (w : World P T F Q) (number : ℕ) (p : P) 
   pub none_due : due s.time s.current ≡ false
   pub current : Current s.current (open_story w p q past)
   pub is_open : (n : ℕ) → is_number n s.current ≡ is_some (going_on (story_of w p q n past))
-  pub waits : (n : ℕ) → is_some (numbered n s.waiting) ≡ waits_then w p q n past
+  pub waits : (n : ℕ) → is_some (waiting_auction n s.waiting) ≡ waits_then w p q n past
   pub waiting_is : length s.waiting ≡ waiting_then w p q past

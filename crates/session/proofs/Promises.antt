@@ -8,11 +8,11 @@ use Rattle.room.specs.World.{World, Terms}
 use Rattle.session.specs.declared.call.Call.{Call}
 use Rattle.session.specs.declared.call.Call.TheVariants.{Halt, Collect}
 use Rattle.session.specs.Claims.{claim_to, claims_to}
-use Rattle.session.specs.Closed.{collecting, collecting_answer, closing_calls, closing_answers, with_close, ClosedByCalls, ToldAtClose, told_of_ended, halted_last, told_at_close, after_close}
+use Rattle.session.specs.Closed.{collecting, collecting_answer, closing_calls, closing_answers, with_close, ClosedByCalls, ClosedTold, told_of_ended, halted_last, told_at_close, after_close}
 use Rattle.session.specs.Desk.{at_desk, desk_after, desk_answer}
 use Rattle.session.specs.Promises.{Carried, Modelled, WholePromise, at_first, made_of}
-use Rattle.session.specs.Runs.{Collected, answered, step}
-use Rattle.session.specs.SessionState.{SessionState, session_of, session_after, session_answer, session_answers, session_end, given}
+use Rattle.session.specs.Runs.{Collected, answer_of_result, step}
+use Rattle.session.specs.SessionState.{SessionState, session_of, session_after, session_answer, session_answers, session_end, answers_there}
 use Rattle.session.specs.Purse.{holds, same_claim, purse_after}
 use Rattle.session.proofs.Claims.{ClaimsMatch, match_kept, match_at_end, same}
 use Rattle.session.proofs.Closing.{first_collected, first_is}
@@ -27,7 +27,7 @@ promised w terms c h =
       room = h.room;
       claims = h.claims;
       own_claims = λ none. h.claims ∙ match_at_end w first c.calls none ∙ sym (ap claims_to h.room);
-      of_the_run = ap given h.answers ∙ answers_of_made w first c.calls;
+      of_the_run = ap answers_there h.answers ∙ answers_of_made w first c.calls;
       laws = laws_of_run w terms c.start.number c.start.market c.start.source (made_of w c.start c.calls);
       session_laws = laws_of_session w first c.calls;
     }
@@ -72,7 +72,7 @@ module _ {P T F Q : Type 0} (w : World P T F Q) where
         let y = step w s (Collect claim 129) in (
           ap (λ (b : Bool). (cond b (session_of y.0 (purse_after {T = T} (Collect claim 129) y.1 (claims_to s))) (at_desk s)).room) is_held ∙ did.state_is ∙ ap (λ es. with_waiting es s) both.1,
           ap (λ (b : Bool). cond b (Some y.1) None) is_held
-              ∙ ap (λ r. Some (answered (λ k. Collected k (collect_rows w s claim 129)) r)) did.answer_is
+              ∙ ap (λ r. Some (answer_of_result (λ k. Collected k (collect_rows w s claim 129)) r)) did.answer_is
               ∙ ap (λ rows. Some (Collected (record { count = length (fill_rows w did.auction); cause = did.auction.cause }) rows)) did.rows_are
               ∙ ap (λ (e : EndedValues). Some (Collected (record { count = length (fill_rows w e); cause = e.cause }) (fill_rows w e))) both.0,
         )
@@ -109,7 +109,7 @@ module _ {P T F Q : Type 0} (w : World P T F Q) where
         end = ap (λ t. session_end w t collectings) then ∙ did.end;
       }
 
-  pub closed_by_calls : (s : RoomState P Q) (ts : List ToldAtClose) (room : RoomState P Q) → ts ≡ told_at_close w s → room ≡ after_close w s → ClosedByCalls w s ts room
+  pub closed_by_calls : (s : RoomState P Q) (ts : List ClosedTold) (room : RoomState P Q) → ts ≡ told_at_close w s → room ≡ after_close w s → ClosedByCalls w s ts room
   closed_by_calls s ts room told state =
       subst (λ l. ClosedByCalls w s l room) (sym told) (subst (λ r. ClosedByCalls w s (told_at_close w s) r) (sym state) (desk_closed s))
 
@@ -118,7 +118,7 @@ module _ {P T F Q : Type 0} (w : World P T F Q) where
   desk_at_end c none h = is_desk (session_end w (at_first c.start) c.calls) (match_at_end w (at_first c.start) c.calls none) ∙ ap at_desk (sym h.room)
 
   -- so what holds of calls holds of them with those of the close
-  pub closed_modelled : (c : Carried P T F Q) (ts : List ToldAtClose) (room : RoomState P Q) → c.start.purse ≡ [] → Modelled w c → ClosedByCalls w c.room ts room → Modelled w (with_close c ts room)
+  pub closed_modelled : (c : Carried P T F Q) (ts : List ClosedTold) (room : RoomState P Q) → c.start.purse ≡ [] → Modelled w c → ClosedByCalls w c.room ts room → Modelled w (with_close c ts room)
   closed_modelled c ts room none h did =
       let first = at_first c.start in
       let closing : List (Call T) = closing_calls ts in
@@ -136,7 +136,7 @@ module _ {P T F Q : Type 0} (w : World P T F Q) where
   pub as_modelled : (c : Carried P T F Q) → WholePromise w c → Modelled w c
   as_modelled c h = record { answers = h.answers; room = h.room; claims = h.claims }
 
-  pub closed_promised : Terms w → (c : Carried P T F Q) (ts : List ToldAtClose) (room : RoomState P Q) → c.start.purse ≡ [] → WholePromise w c → ClosedByCalls w c.room ts room
+  pub closed_promised : Terms w → (c : Carried P T F Q) (ts : List ClosedTold) (room : RoomState P Q) → c.start.purse ≡ [] → WholePromise w c → ClosedByCalls w c.room ts room
       → WholePromise w (with_close c ts room)
   closed_promised terms c ts room none h did =
       promised w terms (with_close c ts room) (closed_modelled c ts room none (as_modelled c h) did)

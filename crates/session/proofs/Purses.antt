@@ -1,4 +1,4 @@
--- Finding a claim in a purse: the first of its numbers, and the others without it; and putting one back to its place.
+-- Finding a claim in a purse: the first of its numbers, and the others without it; and putting one back.
 use Rattle.std.proofs.Common.{◌≡◌, ℕ, zero, suc, ◌<◌, ◌≤◌, Bool, true, false, cond, not, ◌||◌, eqb, List, [], ◌∷◌, map, length, get_or, Some, None, sym, refl, ap, ◌∙◌, le_of_suc-le-suc, not-suc-le-zero, nat_lt, arith}
 use Rattle.std.proofs.lemmas.Bool.{and_parts, eqb-true, not-true, or_parts}
 use Rattle.std.specs.List.{insert, position, position_or_len, remove}

@@ -8,7 +8,7 @@ use Rattle.room.specs.State.{RoomState}
 use Rattle.room.specs.World.{World}
 use Rattle.session.specs.declared.call.Call.{Call}
 use Rattle.session.specs.Runs.{Answer, Moment, moment, step, run_from}
-use Rattle.session.specs.SessionState.{SessionState, session_of, session_after, session_answer, session_answers, session_moment, session_moments, calls_made, session_end, given}
+use Rattle.session.specs.SessionState.{SessionState, session_of, session_after, session_answer, session_answers, session_moment, session_moments, calls_made, session_end, answers_there}
 use Rattle.session.specs.Purse.{is_made, purse_after}
 use Rattle.session.proofs.Choices.{cond_through}
 
@@ -18,8 +18,8 @@ module _ {P T F Q : Type 0} (w : World P T F Q) where
 
   -- the answers to the calls that were made are those of their run
   of_made : (b : Bool) (s : SessionState P Q) (c : Call T) (cs : List (Call T)) → is_made c s.purse ≡ b
-      → ((t : SessionState P Q) → given (session_answers w t cs) ≡ answers_of (run_from w t.room (calls_made w t cs)))
-      → given (cond b (Some (step w s.room c).1) None ∷ session_answers w (session_after w s c) cs)
+      → ((t : SessionState P Q) → answers_there (session_answers w t cs) ≡ answers_of (run_from w t.room (calls_made w t cs)))
+      → answers_there (cond b (Some (step w s.room c).1) None ∷ session_answers w (session_after w s c) cs)
       ≡ answers_of (run_from w s.room (cond b (c ∷ calls_made w (session_after w s c) cs) (calls_made w (session_after w s c) cs)))
   of_made true s c cs h again =
       let after = session_after w s c in
@@ -30,7 +30,7 @@ module _ {P T F Q : Type 0} (w : World P T F Q) where
       let is : after.room ≡ s.room = ap (λ (b : Bool). (cond b (record { room = (step w s.room c).0; purse = purse_after c (step w s.room c).1 s.purse }) s).room) h in
       again after ∙ ap (λ r. answers_of (run_from w r (calls_made w after cs))) is
 
-  pub answers_of_made : (s : SessionState P Q) (cs : List (Call T)) → given (session_answers w s cs) ≡ answers_of (run_from w s.room (calls_made w s cs))
+  pub answers_of_made : (s : SessionState P Q) (cs : List (Call T)) → answers_there (session_answers w s cs) ≡ answers_of (run_from w s.room (calls_made w s cs))
   answers_of_made s [] = refl
   answers_of_made s (c ∷ cs) = of_made (is_made c s.purse) s c cs refl (λ t. answers_of_made t cs)
 

@@ -3,7 +3,7 @@ use Rattle.std.specs.Prelude.{◌≡◌, ℕ, List, [], ◌∷◌, ◌++◌, map
 use Rattle.room.specs.Rooms.{state_of}
 use Rattle.room.specs.State.{RoomState, new_room}
 use Rattle.room.specs.World.{World}
-use Rattle.session.specs.Closed.{with_close, ClosedByCalls, ToldAtClose}
+use Rattle.session.specs.Closed.{with_close, ClosedByCalls, ClosedTold}
 use Rattle.session.specs.declared.answer.Answer.{Answer}
 use Rattle.session.specs.declared.call.Call.{Call}
 use Rattle.session.specs.declared.desk.Desk.{Desk}
@@ -60,7 +60,7 @@ module _ {M R S P T D F Q : Type 0} (world : R → World P T F Q) (position : M 
   -- The whole promise holds of the calls; and on, where the desk is then closed as the contract of `close` says.
   pub record DeskPromise (w : World P T F Q) (past : Carried P T F Q) (d : Desk M R S) (cs : List (DeskCall M R S T D)) : Type 0 where
     pub promise : WholePromise w (desk_carried past d cs)
-    pub when_closed : (ts : List ToldAtClose) (room : RoomState P Q) → ClosedByCalls (world_at (last_desk d cs)) (room_at (last_desk d cs)) ts room
+    pub when_closed : (ts : List ClosedTold) (room : RoomState P Q) → ClosedByCalls (world_at (last_desk d cs)) (room_at (last_desk d cs)) ts room
         → WholePromise w (with_close (desk_carried past d cs) ts room)
 
   pub record DeskCallsKeepThePromise : Type 0 where

@@ -1,7 +1,7 @@
 -- When an auction ends: within a second, not by time too soon, never without waiting to be collected, and for its causes
 -- and no others.
 use Rattle.std.specs.Prelude.{◌≡◌, ℕ, ◌+◌, ◌≤◌, Bool, true, false, cond, ◌&&◌, List, [], ◌∷◌, length, is_some, Some, None, Option, ◌==◌, nat_le}
-use Rattle.room.specs.State.{RoomState, numbered}
+use Rattle.room.specs.State.{RoomState, waiting_auction}
 use Rattle.room.specs.World.{World}
 use Rattle.session.specs.declared.call.Call.{Call}
 use Rattle.session.specs.declared.call.Call.TheVariants.{Collect}
@@ -17,11 +17,11 @@ told_cause _ = None
 
 -- The auction of this number waits to be collected.
 abbrev pub waits : {P Q : Type 0} → ℕ → RoomState P Q → Bool
-waits n s = is_some (numbered n s.waiting)
+waits n s = is_some (waiting_auction n s.waiting)
 
 -- How many auctions the room holds: those that wait, and the one that is open.
-abbrev pub held_in : {P Q : Type 0} → RoomState P Q → ℕ
-held_in s = length s.waiting + cond (is_some s.current) 1 0
+abbrev pub auction_count : {P Q : Type 0} → RoomState P Q → ℕ
+auction_count s = length s.waiting + cond (is_some s.current) 1 0
 
 module _ {P T F Q : Type 0} where
   -- A timed call that passes its input checks, with this time.
@@ -64,8 +64,8 @@ module _ {P T F Q : Type 0} (w : World P T F Q) (number : ℕ) (p : P) (q : Q) w
   -- wait or are open.
   pub record EndedNotVanished (past : List (Moment P T F Q)) (m : Moment P T F Q) : Type 0 where
     pub waits_until_collected : (n : ℕ) → waits n m.after ≡ waits_then w p q n (history_of (m ∷ past))
-    pub none_lost : openings (history_of (m ∷ past)) ≡ collectings (m ∷ past) + held_in m.after
-    pub at_most_two : held_in m.after ≤ 2
+    pub none_lost : openings (history_of (m ∷ past)) ≡ collectings (m ∷ past) + auction_count m.after
+    pub at_most_two : auction_count m.after ≤ 2
     pub counted_from_one : (n : ℕ) → opened_number m.answer ≡ Some n → n ≡ openings (history_of past) + 1
     pub opens_in_a_range : (n : ℕ) → opened_number m.answer ≡ Some n → (is_open n m.after ≡ true) × (is_some (story_of w p q n (history_of (m ∷ past))) ≡ true)
     pub collected_when_due : CollectedWhenDue past m

@@ -8,14 +8,14 @@ use Rattle.std.specs.Str.{byte}
 use Rattle.market.specs.declared.range.TurnedQuote.{TurnedQuote}
 use Rattle.market.specs.declared.side.Side.{Side}
 use Rattle.market.specs.Range.{RangePrices, turned_quote}
-use Rattle.market.specs.Side.{turned}
+use Rattle.market.specs.Side.{turned_price}
 use Rattle.allocation.specs.declared.order.Guarantee.{Guarantee}
 use Rattle.allocation.specs.declared.order.GuaranteeKind.{GuaranteeKind}
 use Rattle.allocation.specs.declared.order.GuaranteeKind.TheVariants.{SingleStop, AutoMatchLimit}
 use Rattle.allocation.specs.declared.order.PairedOrder.{PairedOrder}
 use Rattle.allocation.specs.declared.response.Kind.{Kind}
 use Rattle.allocation.specs.declared.response.Kind.TheVariants.{Sealed, Plain}
-use Rattle.allocation.specs.FillLaws.{Told}
+use Rattle.allocation.specs.FillLaws.{StoodResponse}
 use Rattle.room.specs.declared.answers.AuctionView.{AuctionView}
 use Rattle.room.specs.declared.answers.StoredTerms.{StoredTerms}
 use Rattle.room.specs.declared.answers.View.{View}
@@ -96,9 +96,9 @@ is_halt (Halt t) = true
 is_halt _ = false
 
 -- The auction whose claim a call hands in.
-abbrev pub claimed : {T : Type 0} → Call T → Option ℕ
-claimed (Collect c n) = Some c.auction
-claimed _ = None
+abbrev pub auction_in : {T : Type 0} → Call T → Option ℕ
+auction_in (Collect c n) = Some c.auction
+auction_in _ = None
 
 -- A halt halts, a resume resumes, and no other call does either.
 abbrev pub halted_by : {T : Type 0} → Call T → Bool → Bool
@@ -107,33 +107,33 @@ halted_by (Resume t) before = false
 halted_by _ before = before
 
 -- A response as it was answered: the stored price, not turned, and the stored size; and its arrival.
-abbrev pub response_then : ResponseRequest → StoredTerms → ℕ → Told
-response_then x t arrival = record { member = x.member; own = x.own; price = t.price; class = x.class; kind = x.kind; size = t.size; arrival = arrival }
+abbrev pub response_then : ResponseRequest → StoredTerms → ℕ → StoodResponse
+response_then x t arrival = record { member = x.member; own_number = x.own_number; price = t.price; class = x.class; kind = x.kind; size = t.size; arrival = arrival }
 
 -- The same response with another stored price and size: it counts as last stored, and has arrived then.
-abbrev pub restored_then : StoredTerms → ℕ → Told → Told
+abbrev pub restored_then : StoredTerms → ℕ → StoodResponse → StoodResponse
 restored_then t arrival r = record r { price = t.price; size = t.size; arrival = arrival }
 
 -- The response of this member with this own number.
-abbrev pub is_own : ℕ → ℕ → Told → Bool
-is_own member own r = r.member == member && r.own == own
+abbrev pub is_own : ℕ → ℕ → StoodResponse → Bool
+is_own member own_number r = r.member == member && r.own_number == own_number
 
 -- The responses with that one changed.
-abbrev pub changed_then : ℕ → ℕ → StoredTerms → ℕ → List Told → List Told
-changed_then member own t arrival [] = []
-changed_then member own t arrival (r ∷ rs) = cond (is_own member own r) (restored_then t arrival r ∷ rs) (r ∷ changed_then member own t arrival rs)
+abbrev pub changed_then : ℕ → ℕ → StoredTerms → ℕ → List StoodResponse → List StoodResponse
+changed_then member own_number t arrival [] = []
+changed_then member own_number t arrival (r ∷ rs) = cond (is_own member own_number r) (restored_then t arrival r ∷ rs) (r ∷ changed_then member own_number t arrival rs)
 
 -- The responses without that one.
-abbrev pub withdrawn_then : ℕ → ℕ → List Told → List Told
-withdrawn_then member own [] = []
-withdrawn_then member own (r ∷ rs) = cond (is_own member own r) rs (r ∷ withdrawn_then member own rs)
+abbrev pub withdrawn_then : ℕ → ℕ → List StoodResponse → List StoodResponse
+withdrawn_then member own_number [] = []
+withdrawn_then member own_number (r ∷ rs) = cond (is_own member own_number r) rs (r ∷ withdrawn_then member own_number rs)
 
 -- What a call that was answered with a stored price and size makes of the responses that stood, where this is the next
 -- arrival.
-abbrev pub stood_after : {T : Type 0} → Call T → StoredTerms → ℕ → List Told → List Told
+abbrev pub stood_after : {T : Type 0} → Call T → StoredTerms → ℕ → List StoodResponse → List StoodResponse
 stood_after (Respond x) t arrival rs = rs ++ response_then x t arrival ∷ []
-stood_after (Change x) t arrival rs = changed_then x.member x.own t arrival rs
-stood_after (Withdraw x) t arrival rs = withdrawn_then x.member x.own rs
+stood_after (Change x) t arrival rs = changed_then x.member x.own_number t arrival rs
+stood_after (Withdraw x) t arrival rs = withdrawn_then x.member x.own_number rs
 stood_after _ t arrival rs = rs
 
 -- The members of accepted responses and changes, with that of this call.
@@ -144,13 +144,13 @@ storing_after _ ms = ms
 
 -- A plain response that was priced below the floor, turned.
 abbrev pub plain_below : {T : Type 0} → Side → ℤ → Call T → Bool
-plain_below side floor (Respond x) = is_plain_kind x.kind && int_lt (turned side x.price) floor
+plain_below side floor (Respond x) = is_plain_kind x.kind && int_lt (turned_price side x.price) floor
 plain_below side floor _ = false
 
 -- A price that is shown is above the turned price of one of these.
-abbrev pub above_one : Side → Option ℤ → List Told → Bool
+abbrev pub above_one : Side → Option ℤ → List StoodResponse → Bool
 above_one side shown [] = false
-above_one side shown (r ∷ rs) = is_above shown (turned side r.price) || above_one side shown rs
+above_one side shown (r ∷ rs) = is_above shown (turned_price side r.price) || above_one side shown rs
 
 -- An accepted opening: the order as handed in; its range by what its side was shown then, from the floor to the lower of
 -- limit and contra price; the time; and the interval that the source answered.
@@ -162,7 +162,7 @@ pub record OpeningFacts : Type 0 where
 
 -- The guarantee as stored: turned, and not below the floor at the opening.
 abbrev pub guarantee_of : OpeningFacts → Guarantee
-guarantee_of f = record { kind = f.order.guarantee.kind; price = int_max f.range.floor (turned f.order.side f.order.guarantee.price) }
+guarantee_of f = record { kind = f.order.guarantee.kind; price = int_max f.range.floor (turned_price f.order.side f.order.guarantee.price) }
 
 abbrev pub deadline_of : OpeningFacts → ℕ
 deadline_of f = f.time + f.interval
@@ -172,7 +172,7 @@ deadline_of f = f.time + f.interval
 pub record Story : Type 0 where
   pub opening : OpeningFacts
   pub floor : ℤ
-  pub stood : List Told
+  pub stood : List StoodResponse
   pub storers : List ℕ
   pub ended : Option ℕ
 
@@ -185,7 +185,7 @@ abbrev pub new_story : OpeningFacts → Story
 new_story f = record { opening = f; floor = f.range.floor; stood = []; storers = []; ended = None }
 
 abbrev pub range_shown : PairedOrder → ℤ → ℤ → RangePrices
-range_shown o floor contra = record { side = o.side; floor = floor; contra = contra; initiating = int_min (turned o.side o.limit) contra }
+range_shown o floor contra = record { side = o.side; floor = floor; contra = contra; initiating = int_min (turned_price o.side o.limit) contra }
 
 -- Where a side shows no price there is none.
 abbrev pub story_by : PairedOrder → Option ℤ → Option ℤ → ℕ → ℕ → Option Story
@@ -194,9 +194,9 @@ story_by o (Some floor) None time interval = None
 story_by o (Some floor) (Some contra) time interval = Some (new_story (record { order = o; range = range_shown o floor contra; time = time; interval = interval }))
 
 -- The letter of the cause for which it ended, if it has.
-abbrev pub cause_told : Option Story → Option ℕ
-cause_told None = None
-cause_told (Some s) = s.ended
+abbrev pub ending_cause : Option Story → Option ℕ
+ending_cause None = None
+ending_cause (Some s) = s.ended
 
 -- It has ended.
 abbrev pub is_over : Option Story → Bool
@@ -229,7 +229,7 @@ clock_time c = cond (is_some (input_reason c)) 0 (time_or_zero (given_time c))
 -- What the open auction shows to everybody: its number, side, size and initiating price, not turned, those of its opening.
 abbrev pub story_view : ℕ → Story → AuctionView
 story_view n s =
-    record { number = n; side = s.opening.order.side; size = s.opening.order.size; initiating = turned s.opening.order.side s.opening.range.initiating }
+    record { number = n; side = s.opening.order.side; size = s.opening.order.size; initiating = turned_price s.opening.order.side s.opening.range.initiating }
 
 module _ {T F : Type 0} where
   -- An opening of this auction was accepted.
@@ -238,19 +238,19 @@ module _ {T F : Type 0} where
 
   -- This auction was collected by an accepted collecting.
   abbrev pub collects : ℕ → Exchange T F → Bool
-  collects n x = is_collected x.answer && is_same n (claimed x.call)
+  collects n x = is_collected x.answer && is_same n (auction_in x.call)
 
   -- An accepted tick.
-  abbrev pub ticked_at : Exchange T F → Bool
-  ticked_at x = is_accepted x.answer && is_some (tick_in x.call)
+  abbrev pub is_accepted_tick : Exchange T F → Bool
+  is_accepted_tick x = is_accepted x.answer && is_some (tick_in x.call)
 
   -- A: another opening is accepted.
-  abbrev pub another_opened : Exchange T F → Bool
-  another_opened x = is_some (opened_number x.answer)
+  abbrev pub is_accepted_opening : Exchange T F → Bool
+  is_accepted_opening x = is_some (opened_number x.answer)
 
   -- H: a halt is accepted.
-  abbrev pub halt_accepted : Exchange T F → Bool
-  halt_accepted x = is_accepted x.answer && is_halt x.call
+  abbrev pub is_accepted_halt : Exchange T F → Bool
+  is_accepted_halt x = is_accepted x.answer && is_halt x.call
 
   -- The room's time: the latest time of a timed call that passed its input checks, 0 before the first.
   abbrev pub time_then : List (Exchange T F) → ℕ
@@ -265,7 +265,7 @@ module _ {T F : Type 0} where
   -- How many openings were accepted: auctions are counted from 1, so it is the number of the last one.
   abbrev pub openings : List (Exchange T F) → ℕ
   openings [] = 0
-  openings (x ∷ past) = cond (another_opened x) 1 0 + openings past
+  openings (x ∷ past) = cond (is_accepted_opening x) 1 0 + openings past
 
   -- It was collected by some exchange.
   abbrev pub was_collected : ℕ → List (Exchange T F) → Bool
@@ -285,7 +285,7 @@ module _ {P T F Q : Type 0} (w : World P T F Q) (p : P) (q : Q) where
   -- The source's position: accepted openings draw, and nothing else does.
   abbrev pub source_at : List (Exchange T F) → Q
   source_at [] = q
-  source_at (x ∷ past) = cond (another_opened x) (w.source.next (source_at past)) (source_at past)
+  source_at (x ∷ past) = cond (is_accepted_opening x) (w.source.next (source_at past)) (source_at past)
 
   -- What the market now shows to an order of a side: floor and contra price.
   abbrev pub shown_to : Side → List (Exchange T F) → TurnedQuote
@@ -302,19 +302,19 @@ module _ {P T F Q : Type 0} (w : World P T F Q) (p : P) (q : Q) where
   module _ (past : List (Exchange T F)) (x : Exchange T F) (s : Story) where
     -- B: at an accepted tick, the floor now shown is above the initiating price.
     abbrev pub floor_above_initiating : Bool
-    floor_above_initiating = ticked_at x && is_above (shown_now s (x ∷ past)).floor s.opening.range.initiating
+    floor_above_initiating = is_accepted_tick x && is_above (shown_now s (x ∷ past)).floor s.opening.range.initiating
 
     -- C: it is above a response that stands.
     abbrev pub floor_above_response : Bool
-    floor_above_response = ticked_at x && above_one s.opening.order.side (shown_now s (x ∷ past)).floor s.stood
+    floor_above_response = is_accepted_tick x && above_one s.opening.order.side (shown_now s (x ∷ past)).floor s.stood
 
     -- D: it is above a single stop.
     abbrev pub floor_above_stop : Bool
-    floor_above_stop = ticked_at x && stop_passed (guarantee_of s.opening).kind (shown_now s (x ∷ past)).floor (guarantee_of s.opening).price
+    floor_above_stop = is_accepted_tick x && stop_passed (guarantee_of s.opening).kind (shown_now s (x ∷ past)).floor (guarantee_of s.opening).price
 
     -- F: at an accepted tick, the contra price now shown is below the guarantee.
     abbrev pub contra_below_guarantee : Bool
-    contra_below_guarantee = ticked_at x && is_below (shown_now s (x ∷ past)).contra (guarantee_of s.opening).price
+    contra_below_guarantee = is_accepted_tick x && is_below (shown_now s (x ∷ past)).contra (guarantee_of s.opening).price
 
     -- The letter of the first cause that a call brings to an open auction: T comes first, since every timed call begins with the clock
     -- step; at a tick B, C, D and F are tried in this order; A, E and H are of other calls.
@@ -322,40 +322,40 @@ module _ {P T F Q : Type 0} (w : World P T F Q) (p : P) (q : Q) where
     first_cause =
         first_that_holds
         ((deadline_reached s (x ∷ past), byte "T")
-        ∷ ((another_opened x, byte "A")
+        ∷ ((is_accepted_opening x, byte "A")
         ∷ ((floor_above_initiating, byte "B")
         ∷ ((floor_above_response, byte "C")
         ∷ ((floor_above_stop, byte "D")
         ∷ ((contra_below_guarantee, byte "F")
         ∷ ((plain_response_below_floor s x, byte "E")
-        ∷ ((halt_accepted x, byte "H")
+        ∷ ((is_accepted_halt x, byte "H")
         ∷ []))))))))
 
     -- The floor after a call: what an accepted tick that did not end the auction shows there, if it shows a price.
     abbrev pub floor_after : ℤ
-    floor_after = cond (ticked_at x && not (is_some first_cause)) (shown_or (shown_now s (x ∷ past)).floor s.floor) s.floor
+    floor_after = cond (is_accepted_tick x && not (is_some first_cause)) (shown_or (shown_now s (x ∷ past)).floor s.floor) s.floor
 
     -- The call finds the auction open after its clock step, and was told a stored price and size.
     abbrev pub stores : Bool
     stores = is_some (told_terms x.answer) && not (deadline_reached s (x ∷ past))
 
-    abbrev pub stood_told : Option StoredTerms → List Told
-    stood_told None = s.stood
-    stood_told (Some t) = stood_after x.call t (next_arrival s) s.stood
+    abbrev pub stood_with : Option StoredTerms → List StoodResponse
+    stood_with None = s.stood
+    stood_with (Some t) = stood_after x.call t (next_arrival s) s.stood
 
     -- What a call makes of an open auction. A response that ends it still stands in it; the floor of an ending tick does not
     -- count.
-    abbrev pub lived : Story
-    lived = record s {
+    abbrev pub open_story_after : Story
+    open_story_after = record s {
       floor = floor_after;
-      stood = cond (deadline_reached s (x ∷ past)) s.stood (stood_told (told_terms x.answer));
+      stood = cond (deadline_reached s (x ∷ past)) s.stood (stood_with (told_terms x.answer));
       storers = cond stores (storing_after x.call s.storers) s.storers;
       ended = first_cause;
     }
 
     -- An auction that has ended stays as it was.
     abbrev pub story_after : Story
-    story_after = cond (is_some s.ended) s lived
+    story_after = cond (is_some s.ended) s open_story_after
 
   abbrev pub story_opened : Option PairedOrder → List (Exchange T F) → ℕ → Option Story
   story_opened None past time = None
@@ -376,7 +376,7 @@ module _ {P T F Q : Type 0} (w : World P T F Q) (p : P) (q : Q) where
 
   -- and the one for which it ended.
   abbrev pub cause_of : ℕ → List (Exchange T F) → Option ℕ
-  cause_of n past = cause_told (story_of n past)
+  cause_of n past = ending_cause (story_of n past)
 
   -- It has ended.
   abbrev pub has_ended : ℕ → List (Exchange T F) → Bool

@@ -22,7 +22,7 @@ use Rattle.room.specs.World.{World}
 use Rattle.session.specs.declared.call.Call.{Call}
 use Rattle.session.specs.declared.call.Call.TheVariants.{Open, Respond, Change, Withdraw, Tick, Halt, Resume, Clock, Look, Collect}
 use Rattle.session.specs.Laws.{LawsOfRun}
-use Rattle.session.specs.Runs.{Answer, Opened, Stored, Accepted, Looked, Collected, Refused, Moment, answered, clock_stepped, given_time, input_refusal, run}
+use Rattle.session.specs.Runs.{Answer, Opened, Stored, Accepted, Looked, Collected, Refused, Moment, answer_of_result, after_clock_step, given_time, input_refusal, run}
 
 -- A call of a room's method: the room before it and after it, and what it answered.
 pub record MethodCall (M R S T F : Type 0) : Type 0 where
@@ -42,7 +42,7 @@ module _ {M R S P T D F Q : Type 0} (world : R → World P T F Q) (position : M 
     pub state : state_now after ≡ meant.0
     pub answer : tells result ≡ meant.1
     pub ranking : after.ranking ≡ before.ranking
-    pub told : a ≡ answered kind (tells result)
+    pub told : a ≡ answer_of_result kind (tells result)
 
   -- The clause of `look`, which leaves the room.
   pub record LookByContract (before after : Room M R S) (a : Answer F) : Type 0 where
@@ -94,7 +94,7 @@ module _ {M R S P T D F Q : Type 0} (world : R → World P T F Q) (position : M 
   moment_of c = record {
     call = c.call;
     before = state_now c.before;
-    stepped = clock_stepped (input_refusal c.call) (given_time c.call) (state_now c.before);
+    stepped = after_clock_step (input_refusal c.call) (given_time c.call) (state_now c.before);
     after = state_now c.after;
     answer = c.answer;
   }

@@ -35,9 +35,9 @@ beyond_own_numbers = outside 1 4
 abbrev pub input_reasons : {T : Type 0} → Call T → List (Bool × ℕ)
 input_reasons (Open x) =
     (beyond_times x.time, 1) ∷ ((beyond_prices x.order.limit, 2) ∷ ((beyond_prices x.order.guarantee.price, 2) ∷ ((beyond_sizes x.order.size, 3) ∷ ((beyond_members x.member, 4) ∷ []))))
-input_reasons (Respond x) = (beyond_times x.time, 1) ∷ ((beyond_prices x.price, 2) ∷ ((beyond_sizes x.size, 3) ∷ ((beyond_members x.member, 4) ∷ ((beyond_own_numbers x.own, 5) ∷ []))))
-input_reasons (Change x) = (beyond_times x.time, 1) ∷ ((beyond_prices x.price, 2) ∷ ((beyond_sizes x.size, 3) ∷ ((beyond_members x.member, 4) ∷ ((beyond_own_numbers x.own, 5) ∷ []))))
-input_reasons (Withdraw x) = (beyond_times x.time, 1) ∷ ((beyond_members x.member, 4) ∷ ((beyond_own_numbers x.own, 5) ∷ []))
+input_reasons (Respond x) = (beyond_times x.time, 1) ∷ ((beyond_prices x.price, 2) ∷ ((beyond_sizes x.size, 3) ∷ ((beyond_members x.member, 4) ∷ ((beyond_own_numbers x.own_number, 5) ∷ []))))
+input_reasons (Change x) = (beyond_times x.time, 1) ∷ ((beyond_prices x.price, 2) ∷ ((beyond_sizes x.size, 3) ∷ ((beyond_members x.member, 4) ∷ ((beyond_own_numbers x.own_number, 5) ∷ []))))
+input_reasons (Withdraw x) = (beyond_times x.time, 1) ∷ ((beyond_members x.member, 4) ∷ ((beyond_own_numbers x.own_number, 5) ∷ []))
 input_reasons (Tick t x) = (beyond_times t, 1) ∷ []
 input_reasons (Halt t) = (beyond_times t, 1) ∷ []
 input_reasons (Resume t) = (beyond_times t, 1) ∷ []

@@ -27,7 +27,7 @@ pub record RunLaws {P T F Q : Type 0} (w : World P T F Q) : Type 0 where
 -- The laws of one run: of these calls on a room made of this number and these positions.
 pub record LawsOfRun {P T F Q : Type 0} (w : World P T F Q) (number : ℕ) (p : P) (q : Q) (cs : List (Call T)) : Type 0 where
   -- What a member may learn: against every other list of calls that is alike to the member, and in which openings are
-  -- accepted and auctions end at the same places, the member is shown the same at every place. These calls are alike to
+  -- accepted and auctions end at the same places, the member is shown the same at every call. These calls are alike to
   -- themselves, so that this is said of every list.
   pub alike_to_itself : (u : ℕ) → AllAlike u cs cs
   pub learning : (u : ℕ) (ds : List (Call T)) → AllAlike u cs ds
@@ -53,7 +53,8 @@ pub record LawsOfSession {P T F Q : Type 0} (w : World P T F Q) (s : SessionStat
   -- The answers are those of its moments, none where no call is made.
   pub answers : session_answers w s cs ≡ map (option_map (λ (m : Moment P T F Q). m.answer)) (session_moments w s cs)
   -- What a member may learn: against every other list of calls that is alike to the member, and in which openings are
-  -- accepted and auctions end at the same places, the member is shown the same, and calls are made, at the same places.
+  -- accepted and auctions end at the same places, the member is shown the same at every call, and calls are made at the same
+  -- places.
   pub learning : (u : ℕ) (ds : List (Call T)) → AllAlike u cs ds
       → map opens_if_made (session_moments w s cs) ≡ map opens_if_made (session_moments w s ds)
       → map ends_if_made (session_moments w s cs) ≡ map ends_if_made (session_moments w s ds)

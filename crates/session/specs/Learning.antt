@@ -47,7 +47,7 @@ pub record OpeningsAlike (x y : OpeningRequest) : Type 0 where
 pub record ResponsesAlike (u : ℕ) (x y : ResponseRequest) : Type 0 where
   pub time : x.time ≡ y.time
   pub member : x.member ≡ y.member
-  pub own : x.own ≡ y.own
+  pub own_number : x.own_number ≡ y.own_number
   pub side : x.side ≡ y.side
   pub kind : x.kind ≡ y.kind
   pub price : HiddenOrEqual (hidden_from u x.member price_inside) x.price y.price
@@ -58,7 +58,7 @@ pub record ResponsesAlike (u : ℕ) (x y : ResponseRequest) : Type 0 where
 pub record ChangesAlike (u : ℕ) (x y : ChangeRequest) : Type 0 where
   pub time : x.time ≡ y.time
   pub member : x.member ≡ y.member
-  pub own : x.own ≡ y.own
+  pub own_number : x.own_number ≡ y.own_number
   pub price : HiddenOrEqual (hidden_from u x.member price_inside) x.price y.price
   pub size : HiddenOrEqual (hidden_from u x.member size_inside) x.size y.size
 
@@ -69,7 +69,7 @@ Alike u (Respond x) (Respond y) = ResponsesAlike u x y
 Alike u (Change x) (Change y) = ChangesAlike u x y
 Alike u c d = c ≡ d
 
--- Two lists of calls of equal length that are alike place by place.
+-- Two lists of calls of equal length that are alike call by call.
 abbrev pub AllAlike : {T : Type 0} → ℕ → List (Call T) → List (Call T) → Type 0
 AllAlike u [] [] = Unit {0}
 AllAlike u [] (d ∷ ds) = ⊥
@@ -109,8 +109,8 @@ module _ {P T F Q : Type 0} where
   abbrev pub ends_here : Moment P T F Q → Bool
   ends_here m = ends_of m.before.current m
 
--- Two runs on rooms made alike, of calls that are alike to a member, in which openings are accepted at the same places
--- and auctions end at the same places: the member is shown the same at every place.
+-- Two runs on rooms made alike, of calls that are alike to a member, in which openings are accepted and auctions end at the
+-- same places: the member is shown the same at every call.
 abbrev pub MemberSeesTheSame : {P T F Q : Type 0} → World P T F Q → Type 0
 MemberSeesTheSame {P} {T} {F} {Q} w =
     (number : ℕ) (p : P) (q : Q) (u : ℕ) (cs ds : List (Call T)) → AllAlike u cs ds

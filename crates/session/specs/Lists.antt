@@ -1,4 +1,4 @@
--- The memory that calls take before they are made: a place in the purse for each, and a list of rows for each collecting.
+-- The memory that calls take before they are made: memory in the purse for each, and a list of rows for each collecting.
 use Rattle.std.specs.Prelude.{◌≡◌, ℕ, ◌+◌, ◌≤◌, List, [], ◌∷◌, Vec, vec_items, vec_capacity}
 use Rattle.allocation.specs.declared.fill.FillRow.{FillRow}
 use Rattle.session.specs.declared.call.Call.{Call}
@@ -14,6 +14,6 @@ abbrev pub lists_for_all : {T : Type 0} → List (Call T) → ℕ
 lists_for_all [] = 0
 lists_for_all (c ∷ cs) = lists_for c + lists_for_all cs
 
--- A list of rows that is kept for a collecting: it is empty, and has a place for every row.
+-- A list of rows that is kept for a collecting: it is empty, and has memory for every row.
 abbrev pub TakesEveryRow : {Z : Type 0} → Vec FillRow Z → Type 0
 TakesEveryRow rows = (vec_items rows ≡ []) × (129 ≤ vec_capacity rows)

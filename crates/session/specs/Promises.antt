@@ -7,7 +7,7 @@ use Rattle.session.specs.declared.call.Call.{Call}
 use Rattle.session.specs.Claims.{claims_to}
 use Rattle.session.specs.Laws.{LawsOfRun, LawsOfSession}
 use Rattle.session.specs.Runs.{Answer, Moment, run}
-use Rattle.session.specs.SessionState.{SessionState, session_of, session_answers, session_end, calls_made, given}
+use Rattle.session.specs.SessionState.{SessionState, session_of, session_answers, session_end, calls_made, answers_there}
 
 -- What a room is made of, and the claims that are handed in beside it: its number, the positions of its market and its source,
 -- and the claims' numbers.
@@ -55,7 +55,7 @@ module _ {P T F Q : Type 0} where
     -- those that wait, the oldest first, and to the open one.
     pub own_claims : c.start.purse ≡ [] → c.claims ≡ claims_to c.room
     -- The answers to the calls that were made are those of their run from the room's making,
-    pub of_the_run : given c.answers ≡ map (λ (m : Moment P T F Q). m.answer) (run_of w c.start c.calls)
+    pub of_the_run : answers_there c.answers ≡ map (λ (m : Moment P T F Q). m.answer) (run_of w c.start c.calls)
     -- and every law holds of that run.
     pub laws : LawsOfRun w c.start.number c.start.market c.start.source (made_of w c.start c.calls)
     -- The laws of the session hold, of the calls as they were handed in, with the collectings whose claim is not held: what a

@@ -3,19 +3,19 @@
 use Rattle.std.specs.Prelude.{ℕ, List, Bool, true, false, cond, ◌&&◌, ◌||◌, [], ◌∷◌, ◌++◌, ◌==◌}
 use Rattle.room.specs.declared.answers.ClaimNumbers.{ClaimNumbers}
 use Rattle.room.specs.Rooms.{claim_numbers}
-use Rattle.session.specs.declared.purse.Taken.{Taken}
+use Rattle.session.specs.declared.purse.TakenClaim.{TakenClaim}
 use Rattle.session.specs.declared.call.Call.{Call}
 use Rattle.session.specs.declared.call.Call.TheVariants.{Open, Collect}
 use Rattle.session.specs.History.{is_collected}
 use Rattle.session.specs.Runs.{Answer, Opened}
 
--- The numbers of the claims that are held, and how many places are free.
+-- The numbers of the claims that it holds, and for how many more it has memory.
 pub record PurseValue : Type 0 where
   pub numbers : List ClaimNumbers
-  pub places : ℕ
+  pub free : ℕ
 
 -- The numbers of a claim that was taken out.
-abbrev pub taken_numbers : Taken → ClaimNumbers
+abbrev pub taken_numbers : TakenClaim → ClaimNumbers
 taken_numbers t = claim_numbers t.claim
 
 -- Two claims have the same numbers.
@@ -37,7 +37,7 @@ abbrev pub claim_in : {F : Type 0} → Answer F → List ClaimNumbers
 claim_in (Opened c) = c ∷ []
 claim_in _ = []
 
--- What a collecting leaves of a purse: an accepted one spends the claim, and a refused one hands it back, to its place.
+-- What a collecting leaves of a purse: an accepted one spends the claim, and a refused one hands it back.
 abbrev pub purse_left : {F : Type 0} → Answer F → ClaimNumbers → List ClaimNumbers → List ClaimNumbers
 purse_left a c purse = cond (is_collected a) (without_claim c purse) purse
 

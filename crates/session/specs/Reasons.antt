@@ -6,9 +6,9 @@ use Rattle.std.specs.Option.{option_map}
 use Rattle.market.specs.declared.range.TurnedQuote.{TurnedQuote}
 use Rattle.market.specs.declared.side.Side.{Side}
 use Rattle.market.specs.declared.side.Side.TheVariants.{Buy, Sell}
-use Rattle.market.specs.Side.{turned}
+use Rattle.market.specs.Side.{turned_price}
 use Rattle.allocation.specs.declared.order.PairedOrder.{PairedOrder}
-use Rattle.allocation.specs.FillLaws.{Told}
+use Rattle.allocation.specs.FillLaws.{StoodResponse}
 use Rattle.room.specs.declared.answers.ClaimNumbers.{ClaimNumbers}
 use Rattle.room.specs.declared.answers.StoredTerms.{StoredTerms}
 use Rattle.room.specs.declared.requests.ChangeRequest.{ChangeRequest}
@@ -54,12 +54,12 @@ on_one_side Sell Sell = true
 on_one_side _ _ = false
 
 -- The response of a member with an own number, if it stands.
-abbrev pub standing_of : ℕ → ℕ → List Told → Option Told
-standing_of member own [] = None
-standing_of member own (r ∷ rs) = cond (is_own member own r) (Some r) (standing_of member own rs)
+abbrev pub standing_of : ℕ → ℕ → List StoodResponse → Option StoodResponse
+standing_of member own_number [] = None
+standing_of member own_number (r ∷ rs) = cond (is_own member own_number r) (Some r) (standing_of member own_number rs)
 
 -- It stands and is plain.
-abbrev pub is_plain_standing : Option Told → Bool
+abbrev pub is_plain_standing : Option StoodResponse → Bool
 is_plain_standing None = false
 is_plain_standing (Some r) = is_plain_kind r.kind
 
@@ -69,17 +69,17 @@ stored_by member [] = 0
 stored_by member (m ∷ ms) = cond (m == member) 1 0 + stored_by member ms
 
 -- The contra price that is shown is below the floor that is shown.
-abbrev pub crossed : Option ℤ → Option ℤ → Bool
-crossed None contra = false
-crossed (Some floor) contra = is_below contra floor
+abbrev pub is_crossed : Option ℤ → Option ℤ → Bool
+is_crossed None contra = false
+is_crossed (Some floor) contra = is_below contra floor
 
 -- The reasons against an opening that follow from what its side is shown: 14 a side shows no price; 15 the limit or the
 -- contra price is below the floor; 16 the guarantee is above the limit or the contra price.
 abbrev pub price_reasons : PairedOrder → TurnedQuote → List (Bool × ℕ)
 price_reasons o q =
     (not (is_some q.floor && is_some q.contra), 14)
-    ∷ ((is_above q.floor (turned o.side o.limit) || crossed q.floor q.contra, 15)
-    ∷ ((int_lt (turned o.side o.limit) (turned o.side o.guarantee.price) || is_below q.contra (turned o.side o.guarantee.price), 16)
+    ∷ ((is_above q.floor (turned_price o.side o.limit) || is_crossed q.floor q.contra, 15)
+    ∷ ((int_lt (turned_price o.side o.limit) (turned_price o.side o.guarantee.price) || is_below q.contra (turned_price o.side o.guarantee.price), 16)
     ∷ []))
 
 -- Where no auction is open, that is the reason, 21; otherwise there are those of the open one.
@@ -89,11 +89,11 @@ by_open (Some s) reasons = reasons s
 
 -- The price, turned, is above the initiating price.
 abbrev pub above_initiating : Story → ℤ → Bool
-above_initiating s price = int_lt s.opening.range.initiating (turned s.opening.order.side price)
+above_initiating s price = int_lt s.opening.range.initiating (turned_price s.opening.order.side price)
 
 -- The member's 10,000 accepted responses and changes are used.
-abbrev pub used_up : Story → ℕ → Bool
-used_up s member = nat_le 10000 (stored_by member s.storers)
+abbrev pub is_used_up : Story → ℕ → Bool
+is_used_up s member = nat_le 10000 (stored_by member s.storers)
 
 -- A response: 22 it is on the order's side, 23 above the initiating price, 24 its own number is in use, 27 the 10,000 are
 -- used.
@@ -101,33 +101,33 @@ abbrev pub respond_reasons : ResponseRequest → Story → List (Bool × ℕ)
 respond_reasons x s =
     (on_one_side x.side s.opening.order.side, 22)
     ∷ ((above_initiating s x.price, 23)
-    ∷ ((is_some (standing_of x.member x.own s.stood), 24)
-    ∷ ((used_up s x.member, 27)
+    ∷ ((is_some (standing_of x.member x.own_number s.stood), 24)
+    ∷ ((is_used_up s x.member, 27)
     ∷ [])))
 
 -- Only a sealed response that stands is changed or withdrawn: 25 no such response stands, 26 it is plain.
-abbrev pub sealed_reasons : Option Told → List (Bool × ℕ)
+abbrev pub sealed_reasons : Option StoodResponse → List (Bool × ℕ)
 sealed_reasons r = (not (is_some r), 25) ∷ ((is_plain_standing r, 26) ∷ [])
 
 -- A change: 25, 26, 23, 27.
 abbrev pub change_reasons : ChangeRequest → Story → List (Bool × ℕ)
 change_reasons x s =
-    sealed_reasons (standing_of x.member x.own s.stood) ++ (above_initiating s x.price, 23) ∷ ((used_up s x.member, 27) ∷ [])
+    sealed_reasons (standing_of x.member x.own_number s.stood) ++ (above_initiating s x.price, 23) ∷ ((is_used_up s x.member, 27) ∷ [])
 
 -- A withdrawal: 25, 26.
 abbrev pub withdraw_reasons : WithdrawRequest → Story → List (Bool × ℕ)
-withdraw_reasons x s = sealed_reasons (standing_of x.member x.own s.stood)
+withdraw_reasons x s = sealed_reasons (standing_of x.member x.own_number s.stood)
 
 -- The higher of the price and the floor, turned back, and the lesser of the size and the order's.
 abbrev pub terms_kept : Story → ℤ → ℕ → StoredTerms
 terms_kept s price size =
-    record { price = turned s.opening.order.side (int_max s.floor (turned s.opening.order.side price)); size = min size s.opening.order.size }
+    record { price = turned_price s.opening.order.side (int_max s.floor (turned_price s.opening.order.side price)); size = min size s.opening.order.size }
 
 -- What an accepted response, change or withdrawal is told; a withdrawal what was last stored.
 abbrev pub terms_due : {T : Type 0} → Option Story → Call T → Option StoredTerms
 terms_due (Some s) (Respond x) = Some (terms_kept s x.price x.size)
 terms_due (Some s) (Change x) = Some (terms_kept s x.price x.size)
-terms_due (Some s) (Withdraw x) = option_map (λ (r : Told). record { price = r.price; size = r.size }) (standing_of x.member x.own s.stood)
+terms_due (Some s) (Withdraw x) = option_map (λ (r : StoodResponse). record { price = r.price; size = r.size }) (standing_of x.member x.own_number s.stood)
 terms_due _ _ = None
 
 -- The fault for which a market refuses a tick.

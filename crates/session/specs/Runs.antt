@@ -5,7 +5,7 @@ use Rattle.room.specs.declared.answers.ClaimNumbers.{ClaimNumbers}
 use Rattle.room.specs.declared.answers.StoredTerms.{StoredTerms}
 use Rattle.room.specs.declared.answers.View.{View}
 use Rattle.room.specs.Checks.{open_checks, respond_checks, change_checks, withdraw_checks, time_checks, collect_checks}
-use Rattle.room.specs.Clock.{clocked}
+use Rattle.room.specs.Clock.{after_clock}
 use Rattle.room.specs.Collecting.{CollectionTold, collect_call, collect_rows}
 use Rattle.room.specs.Halts.{halt_call, resume_call, clock_call}
 use Rattle.room.specs.Looks.{look_call}
@@ -30,12 +30,12 @@ pub data Answer (F : Type 0) : Type 0 where
   Refused : RefusalTold F → Answer F
 
 -- A refusal is answered as such, and what is accepted in its own way.
-abbrev pub answered : {X F : Type 0} → (X → Answer F) → Result X (RefusalTold F) → Answer F
-answered f (Ok x) = f x
-answered f (Err e) = Refused e
+abbrev pub answer_of_result : {X F : Type 0} → (X → Answer F) → Result X (RefusalTold F) → Answer F
+answer_of_result f (Ok x) = f x
+answer_of_result f (Err e) = Refused e
 
-abbrev pub answering : {S X F : Type 0} → (X → Answer F) → S × Result X (RefusalTold F) → S × Answer F
-answering f y = (y.0, answered f y.1)
+abbrev pub state_and_answer : {S X F : Type 0} → (X → Answer F) → S × Result X (RefusalTold F) → S × Answer F
+state_and_answer f y = (y.0, answer_of_result f y.1)
 
 -- The time that a call carries: every call but a look and a collecting has one.
 abbrev pub given_time : {T : Type 0} → Call T → Option ℕ
@@ -63,10 +63,10 @@ input_refusal Look = None
 input_refusal (Collect c n) = collect_checks n
 
 -- The room after the clock step of a call: a timed call that passes its input checks has one.
-abbrev pub clock_stepped : {P Q : Type 0} → Option ℕ → Option ℕ → RoomState P Q → RoomState P Q
-clock_stepped (Some e) t s = s
-clock_stepped None None s = s
-clock_stepped None (Some t) s = clocked s t
+abbrev pub after_clock_step : {P Q : Type 0} → Option ℕ → Option ℕ → RoomState P Q → RoomState P Q
+after_clock_step (Some e) t s = s
+after_clock_step None None s = s
+after_clock_step None (Some t) s = after_clock s t
 
 -- A call in a run: the room before it, after its clock step and after it, and the answer.
 pub record Moment (P T F Q : Type 0) : Type 0 where
@@ -79,22 +79,22 @@ pub record Moment (P T F Q : Type 0) : Type 0 where
 module _ {P T F Q : Type 0} (w : World P T F Q) where
   -- One call: the room after it, and the answer.
   abbrev pub step : RoomState P Q → Call T → RoomState P Q × Answer F
-  step s (Open x) = answering Opened (open_call w s x)
-  step s (Respond x) = answering Stored (respond_call s x)
-  step s (Change x) = answering Stored (change_call s x)
-  step s (Withdraw x) = answering Stored (withdraw_call s x)
-  step s (Tick t x) = answering (λ _. Accepted) (tick_call w s t x)
-  step s (Halt t) = answering (λ _. Accepted) (halt_call s t)
-  step s (Resume t) = answering (λ _. Accepted) (resume_call s t)
-  step s (Clock t) = answering (λ _. Accepted) (clock_call s t)
+  step s (Open x) = state_and_answer Opened (open_call w s x)
+  step s (Respond x) = state_and_answer Stored (respond_call s x)
+  step s (Change x) = state_and_answer Stored (change_call s x)
+  step s (Withdraw x) = state_and_answer Stored (withdraw_call s x)
+  step s (Tick t x) = state_and_answer (λ _. Accepted) (tick_call w s t x)
+  step s (Halt t) = state_and_answer (λ _. Accepted) (halt_call s t)
+  step s (Resume t) = state_and_answer (λ _. Accepted) (resume_call s t)
+  step s (Clock t) = state_and_answer (λ _. Accepted) (clock_call s t)
   step s Look = (s, Looked (look_call s))
-  step s (Collect c n) = answering (λ k. Collected k (collect_rows w s c n)) (collect_call w s c n)
+  step s (Collect c n) = state_and_answer (λ k. Collected k (collect_rows w s c n)) (collect_call w s c n)
 
   abbrev pub moment : RoomState P Q → Call T → Moment P T F Q
   moment s c = record {
     call = c;
     before = s;
-    stepped = clock_stepped (input_refusal c) (given_time c) s;
+    stepped = after_clock_step (input_refusal c) (given_time c) s;
     after = (step s c).0;
     answer = (step s c).1;
   }

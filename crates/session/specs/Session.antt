@@ -24,9 +24,9 @@ module _ {M R S P Q : Type 0} where
   abbrev pub session_now : (M → P) → (S → Q) → Session M R S → SessionState P Q
   session_now position source s = session_of (state_of position source s.room) s.purse.numbers
 
--- A session has the memory that these calls can want: a place in the purse for each, and a list of rows for each collecting.
+-- A session has the memory that these calls can want: memory in the purse for each, and a list of rows for each collecting.
 pub record HasMemoryFor {M R S T : Type 0} (s : Session M R S) (cs : List (Call T)) : Type 0 where
-  pub claims : length cs ≤ s.purse.places
+  pub claims : length cs ≤ s.purse.free
   pub lists : lists_for_all cs ≤ s.lists
 
 -- A call was made of a session in code as the model makes it: what it left and what was answered are the model's, and it

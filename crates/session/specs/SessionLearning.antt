@@ -21,14 +21,14 @@ module _ {P T F Q : Type 0} where
   seen_if_made u None = None
   seen_if_made u (Some m) = seen_by u m
 
-  -- The member is shown the same at every place, and calls are made at the same places.
+  -- The member is shown the same at every call, and calls are made at the same places of both lists.
   pub record ShownTheSame (u : ℕ) (ms ns : List (Option (Moment P T F Q))) : Type 0 where
     pub shown : map (seen_if_made u) ms ≡ map (seen_if_made u) ns
     pub made : map is_some ms ≡ map is_some ns
 
 -- Two lists of calls from one session on, whatever its room and its purse, that are alike to a member, and in which openings
--- are accepted at the same places and auctions end at the same places: the member is shown the same at every place, and calls
--- are made at the same places.
+-- are accepted and auctions end at the same places of both lists: the member is shown the same at every call, and calls are made
+-- at the same places.
 abbrev pub MemberSeesTheSameInSessions : {P T F Q : Type 0} → World P T F Q → Type 0
 MemberSeesTheSameInSessions {P} {T} {F} {Q} w =
     (s : SessionState P Q) (u : ℕ) (cs ds : List (Call T)) → AllAlike u cs ds

@@ -48,7 +48,7 @@ module _ {P T F Q : Type 0} (w : World P T F Q) where
   session_end s (c ∷ cs) = session_end (session_after s c) cs
 
 -- Those that are there.
-abbrev pub given : {X : Type 0} → List (Option X) → List X
-given [] = []
-given (None ∷ xs) = given xs
-given (Some x ∷ xs) = x ∷ given xs
+abbrev pub answers_there : {X : Type 0} → List (Option X) → List X
+answers_there [] = []
+answers_there (None ∷ xs) = answers_there xs
+answers_there (Some x ∷ xs) = x ∷ answers_there xs

@@ -5,18 +5,30 @@ ghost use Rattle.session.specs.Lists.{lists_for, lists_for_all};
 use room::answers::ClaimNumbers;
 use room::requests::{ChangeRequest, OpeningRequest, ResponseRequest, WithdrawRequest};
 
-/// T is the market's tick. A collecting hands in a claim, here by its numbers, and a list of so many rows.
+/// A call on a room. T is the market's tick. Times are in milliseconds; 4,000,000,000,000 is the latest that
+/// a room takes.
 #[derive(Drop)]
 pub enum Call<T> {
+    /// Opens an auction.
     Open(OpeningRequest),
+    /// Responds to the open auction.
     Respond(ResponseRequest),
+    /// Changes a sealed response that stands.
     Change(ChangeRequest),
+    /// Withdraws a sealed response that stands.
     Withdraw(WithdrawRequest),
+    /// Hands the market a tick.
     Tick { time: u64, tick: T },
+    /// Halts the room.
     Halt { time: u64 },
+    /// Resumes a room that is halted.
     Resume { time: u64 },
+    /// Moves the room's time forward.
     Clock { time: u64 },
+    /// Looks at what everybody may know.
     Look,
+    /// Collects an auction that has ended. It hands in a claim, here by its numbers, and a list of so many
+    /// rows, 129 at least.
     Collect { claim: ClaimNumbers, rows: usize },
 }
 

@@ -1,5 +1,5 @@
-// A desk keeps a room together with the claims to all the auctions that it holds, so that no claim is left over: it makes calls
-// one by one, and can be closed at any time.
+// A desk keeps a room together with the claims to all the auctions that it holds, so that no claim is left
+// over: it makes calls one by one, and can be closed at any time.
 ghost use Rattle.std.specs.Prelude.{◌≡◌, IfErr, IfOk, OnErr, OnOk, vec_items};
 ghost use Rattle.session.specs.Claims.{claims_of_room};
 
@@ -16,20 +16,22 @@ use std::alloc::{AllocError, Global};
 /// A room with the claims to the auctions that it holds, and no others.
 pub struct Desk<M, R, S> {
     session: Session<M, R, S>,
-    ghost all_held: { session.purse.numbers ≡ claims_of_room session.room },
+    ghost every_claim: { session.purse.numbers ≡ claims_of_room session.room },
 }
 
 impl<M: Market, R: Ranking, S: IntervalSource> Desk<M, R, S> {
-    ghost use Rattle.room.specs.Rooms.{state_of, world_of};
+    ghost use Rattle.room.specs.Calls.{room_state, room_world};
     ghost use Rattle.room.specs.State.{new_room};
     ghost use Rattle.session.specs.Closed.{ClosedByCalls, after_close, listed_told, told_at_close};
     ghost use Rattle.session.specs.Desk.{desk_after, desk_answer};
     ghost use Rattle.session.specs.Session.{session_world, RunAsModelled};
     ghost use Rattle.session.specs.Answer.{told};
 
-    /// A desk with a new room, which holds no auction.
+    /// A desk with a new room of this number, which holds no auction: at time 0, not halted. It takes no
+    /// memory.
     pub fn new(heap: Global, number: u32, market: M, ranking: R, source: S) -> Self
-        ensures state { state_of M.Market.position S.IntervalSource.position result.session.room ≡ new_room number (M.Market.position market) (S.IntervalSource.position source) }
+        ensures state { room_state M.Market S.IntervalSource result.session.room
+            ≡ new_room number (M.Market.position market) (S.IntervalSource.position source) }
         ensures ranking { result.session.room.ranking ≡ ranking }
     {
         Desk {
@@ -41,8 +43,8 @@ impl<M: Market, R: Ranking, S: IntervalSource> Desk<M, R, S> {
         }
     }
 
-    /// Makes a call. A collecting hands in the claim of its numbers, if that is one to an auction of this room. Where memory is
-    /// wanting, no call was made.
+    /// Makes a call. A collecting hands in the claim of its numbers, if that is one to an auction of this
+    /// room. Where memory is wanting, no call was made.
     pub fn call(
         &mut self,
         heap: Global,
@@ -50,8 +52,16 @@ impl<M: Market, R: Ranking, S: IntervalSource> Desk<M, R, S> {
     ) -> Result<Answer<M::Fault>, AllocError>
     where
         M::Tick: Drop,
-        ensures state { OnOk result (state_of M.Market.position S.IntervalSource.position self.new.session.room ≡ desk_after (world_of M.Market.meaning S.IntervalSource.meaning (R.Ranking.ahead self.old.session.room.ranking)) (state_of M.Market.position S.IntervalSource.position self.old.session.room) call) }
-        ensures answer { IfOk result (λ a. told M.Market.told a ≡ desk_answer (world_of M.Market.meaning S.IntervalSource.meaning (R.Ranking.ahead self.old.session.room.ranking)) (state_of M.Market.position S.IntervalSource.position self.old.session.room) call) }
+        ensures state { OnOk result (
+            room_state M.Market S.IntervalSource self.new.session.room
+            ≡ desk_after
+            (room_world M.Market R.Ranking S.IntervalSource self.old.session.room)
+            (room_state M.Market S.IntervalSource self.old.session.room) call) }
+        ensures answer { IfOk result (λ a.
+            told M.Market.told a
+            ≡ desk_answer
+            (room_world M.Market R.Ranking S.IntervalSource self.old.session.room)
+            (room_state M.Market S.IntervalSource self.old.session.room) call) }
         ensures unmade { OnErr result (self.new.session.room ≡ self.old.session.room) }
         ensures ranking { self.new.session.room.ranking ≡ self.old.session.room.ranking }
     {
@@ -59,8 +69,8 @@ impl<M: Market, R: Ranking, S: IntervalSource> Desk<M, R, S> {
         Ok(self.session.make_call(call))
     }
 
-    /// Carries out calls, one after another: the answers in their order. Where memory is wanting, no call was made, and the calls
-    /// come back.
+    /// Carries out calls, one after another: the answers in their order. Where memory is wanting, no call was
+    /// made, and the calls come back.
     pub fn run(
         &mut self,
         heap: Global,
@@ -68,7 +78,10 @@ impl<M: Market, R: Ranking, S: IntervalSource> Desk<M, R, S> {
     ) -> Result<Vec<Answer<M::Fault>>, Vec<Call<M::Tick>>>
     where
         M::Tick: Drop,
-        ensures run { IfOk result (λ answers. RunAsModelled M.Market.told M.Market.position S.IntervalSource.position (session_world M.Market.meaning S.IntervalSource.meaning R.Ranking.ahead self.old.session) self.old.session self.new.session (vec_items calls) (vec_items answers)) }
+        ensures run { IfOk result (λ answers.
+            RunAsModelled M.Market.told M.Market.position S.IntervalSource.position
+            (session_world M.Market.meaning S.IntervalSource.meaning R.Ranking.ahead self.old.session)
+            self.old.session self.new.session (vec_items calls) (vec_items answers)) }
         ensures calls_back { IfErr result (λ back. back ≡ calls) }
         ensures unmade { OnErr result (self.new.session.room ≡ self.old.session.room) }
     {
@@ -77,9 +90,19 @@ impl<M: Market, R: Ranking, S: IntervalSource> Desk<M, R, S> {
 
     /// Halts the room at its own time, and collects each auction that then waits.
     pub fn close(self) -> Closed<M, R, S>
-        ensures as_calls { ClosedByCalls (world_of M.Market.meaning S.IntervalSource.meaning (R.Ranking.ahead self.session.room.ranking)) (state_of M.Market.position S.IntervalSource.position self.session.room) (listed_told result.first result.second) (state_of M.Market.position S.IntervalSource.position result.room) }
-        ensures told { listed_told result.first result.second ≡ told_at_close (world_of M.Market.meaning S.IntervalSource.meaning (R.Ranking.ahead self.session.room.ranking)) (state_of M.Market.position S.IntervalSource.position self.session.room) }
-        ensures state { state_of M.Market.position S.IntervalSource.position result.room ≡ after_close (world_of M.Market.meaning S.IntervalSource.meaning (R.Ranking.ahead self.session.room.ranking)) (state_of M.Market.position S.IntervalSource.position self.session.room) }
+        ensures as_calls { ClosedByCalls
+            (room_world M.Market R.Ranking S.IntervalSource self.session.room)
+            (room_state M.Market S.IntervalSource self.session.room)
+            (listed_told result.first result.second)
+            (room_state M.Market S.IntervalSource result.room) }
+        ensures told { listed_told result.first result.second
+            ≡ told_at_close
+            (room_world M.Market R.Ranking S.IntervalSource self.session.room)
+            (room_state M.Market S.IntervalSource self.session.room) }
+        ensures state { room_state M.Market S.IntervalSource result.room
+            ≡ after_close
+            (room_world M.Market R.Ranking S.IntervalSource self.session.room)
+            (room_state M.Market S.IntervalSource self.session.room) }
         ensures ranking { result.room.ranking ≡ self.session.room.ranking }
     {
         let Desk { session } = self;

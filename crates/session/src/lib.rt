@@ -1,4 +1,4 @@
-// Sessions: a room, and a purse of claims that are handed in to it. Calls are made one by one, or a list of them in one run.
+// Sessions: a room with a purse of claims. Calls are made one by one, or a list of them in one run.
 #![tactic(auto)]
 
 ghost use Rattle.std.specs.Prelude.{◌≡◌, ◌+◌, ◌≤◌, [], ◌∷◌, ◌++◌, length, map, vec_len, vec_capacity, vec_items, IfErr, IfOk, OnErr, OnOk};
@@ -11,7 +11,7 @@ ghost use Rattle.session.specs.Answer.{told, told_result};
 use crate::answer::Answer;
 use crate::call::{Call, lists_for_all};
 use crate::lists::RowLists;
-use crate::purse::{Purse, Taken};
+use crate::purse::{Purse, TakenClaim};
 use allocation::fill::{FillRow, LEAST_ROWS};
 use allocation::ranking::Ranking;
 use interval::source::IntervalSource;
@@ -31,7 +31,8 @@ pub mod laws;
 mod lists;
 mod purse;
 
-/// A room with a purse of claims, also of other rooms. A claim may not be let go, so a session is taken apart at its end.
+/// A room with a purse of claims, also of other rooms. A claim may not be let go, so a session is taken apart
+/// at its end.
 pub struct Session<M, R, S> {
     pub(crate) room: Room<M, R, S>,
     pub(crate) purse: Purse,
@@ -39,7 +40,7 @@ pub struct Session<M, R, S> {
 }
 
 impl<M: Market, R: Ranking, S: IntervalSource> Session<M, R, S> {
-    /// The session of a room, with these claims.
+    /// The session of a room, with these claims, also to auctions of other rooms. It takes no memory.
     pub fn new(heap: Global, room: Room<M, R, S>, claims: Vec<Claim>) -> Session<M, R, S>
         ensures room { result.room ≡ room }
         ensures claims { result.purse.numbers ≡ map claim_numbers (vec_items claims) }
@@ -71,7 +72,7 @@ impl<M: Market, R: Ranking, S: IntervalSource> Session<M, R, S> {
         calls: usize,
         lists: usize,
     ) -> Result<(), AllocError>
-        ensures claims { OnOk result (calls ≤ self.new.purse.places) }
+        ensures claims { OnOk result (calls ≤ self.new.purse.free) }
         ensures lists { OnOk result (lists ≤ self.new.lists) }
         ensures same_room { self.new.room ≡ self.old.room }
         ensures same_claims { self.new.purse.numbers ≡ self.old.purse.numbers }
@@ -80,8 +81,9 @@ impl<M: Market, R: Ranking, S: IntervalSource> Session<M, R, S> {
         self.lists.reserve(heap, lists)
     }
 
-    // Takes the memory that a run of these calls can want, and places for its answers. These come last: an answer may hold a fault
-    // that may not be let go, and then no list of answers may be let go, not even an empty one.
+    // Takes the memory that a run of these calls can want, and that for its answers. This comes last: an
+    // answer may hold a fault that may not be let go, and then no list of answers may be let go, not even an
+    // empty one.
     fn reserve_for_all(
         &mut self,
         heap: Global,
@@ -99,37 +101,42 @@ impl<M: Market, R: Ranking, S: IntervalSource> Session<M, R, S> {
     // Opens an auction and keeps the claim.
     fn open(&mut self, request: OpeningRequest) -> Result<Answer<M::Fault>, Refusal<M::Fault>>
         requires { HasMemoryFor {T = M.Tick} self.old (Open request ∷ []) }
-        ensures { MadeAsModelled (session_world M.Market.meaning S.IntervalSource.meaning R.Ranking.ahead self.old) M.Market.position S.IntervalSource.position self.old self.new (told_result M.Market.told result) (Open request) }
+        ensures { MadeAsModelled (session_world M.Market.meaning S.IntervalSource.meaning R.Ranking.ahead self.old)
+            M.Market.position S.IntervalSource.position
+            self.old self.new (told_result M.Market.told result) (Open request) }
     {
         let claim = self.room.open(request)?;
         let numbers = claim.numbers();
-        self.purse.put(claim);
+        self.purse.add(claim);
         Ok(Answer::Opened(numbers))
     }
 
-    // Collects with the claim of these numbers, if the purse has one; a refusal puts it back to its place.
+    // Collects with the claim of these numbers, if the purse has one; a refusal puts it back to where it was.
     fn collect(
         &mut self,
         numbers: ClaimNumbers,
         rows: usize,
     ) -> Result<Answer<M::Fault>, Refusal<M::Fault>>
         requires { HasMemoryFor {T = M.Tick} self.old (Collect numbers rows ∷ []) }
-        ensures { MadeAsModelled (session_world M.Market.meaning S.IntervalSource.meaning R.Ranking.ahead self.old) M.Market.position S.IntervalSource.position self.old self.new (told_result M.Market.told result) (Collect numbers rows) }
+        ensures { MadeAsModelled (session_world M.Market.meaning S.IntervalSource.meaning R.Ranking.ahead self.old)
+            M.Market.position S.IntervalSource.position
+            self.old self.new (told_result M.Market.told result) (Collect numbers rows) }
     {
         let Some(taken) = self.purse.take(&numbers) else {
             return Ok(Answer::NoClaim);
         };
-        let Taken { claim, place } = taken;
+        let TakenClaim { claim, index } = taken;
         let mut written = [FillRow::BLANK; LEAST_ROWS];
         let list = &mut written[..rows.min(LEAST_ROWS)];
-        // A match: with a closure under `map_err` that puts the claim back, no proof knows what the purse then holds.
+        // A match: with a closure under `map_err` that puts the claim back, no proof knows what the purse
+        // then holds.
         match self.room.collect(claim, list) {
             Ok(collection) => {
                 let rows = self.lists.take(&list[..collection.count]);
                 Ok(Answer::Collected(collection, rows))
             }
             Err((refusal, claim)) => {
-                self.purse.put_at(place, claim);
+                self.purse.put_back(index, claim);
                 Err(refusal)
             }
         }
@@ -140,7 +147,9 @@ impl<M: Market, R: Ranking, S: IntervalSource> Session<M, R, S> {
     where
         M::Tick: Drop,
         requires { HasMemoryFor self.old (call ∷ []) }
-        ensures { MadeAsModelled (session_world M.Market.meaning S.IntervalSource.meaning R.Ranking.ahead self.old) M.Market.position S.IntervalSource.position self.old self.new (told_result M.Market.told result) call }
+        ensures { MadeAsModelled (session_world M.Market.meaning S.IntervalSource.meaning R.Ranking.ahead self.old)
+            M.Market.position S.IntervalSource.position
+            self.old self.new (told_result M.Market.told result) call }
     {
         match call {
             Call::Open(request) => self.open(request),
@@ -173,7 +182,9 @@ impl<M: Market, R: Ranking, S: IntervalSource> Session<M, R, S> {
     where
         M::Tick: Drop,
         requires { HasMemoryFor self.old (call ∷ []) }
-        ensures { MadeAsModelled (session_world M.Market.meaning S.IntervalSource.meaning R.Ranking.ahead self.old) M.Market.position S.IntervalSource.position self.old self.new (told M.Market.told result) call }
+        ensures { MadeAsModelled (session_world M.Market.meaning S.IntervalSource.meaning R.Ranking.ahead self.old)
+            M.Market.position S.IntervalSource.position
+            self.old self.new (told M.Market.told result) call }
     {
         self.try_call(call).unwrap_or_else(Answer::Refused)
     }
@@ -184,8 +195,13 @@ impl<M: Market, R: Ranking, S: IntervalSource> Session<M, R, S> {
         M::Tick: Drop,
         requires memory { HasMemoryFor self.old calls.items }
         requires answers { vec_len answers.old + vec_len calls ≤ vec_capacity answers.old }
-        ensures answers { map (told M.Market.told) answers.new.items ≡ map (told M.Market.told) answers.old.items ++ session_answers (session_world M.Market.meaning S.IntervalSource.meaning R.Ranking.ahead self.old) (session_now M.Market.position S.IntervalSource.position self.old) calls.items }
-        ensures session { session_now M.Market.position S.IntervalSource.position self.new ≡ session_end (session_world M.Market.meaning S.IntervalSource.meaning R.Ranking.ahead self.old) (session_now M.Market.position S.IntervalSource.position self.old) calls.items }
+        ensures answers { map (told M.Market.told) answers.new.items
+            ≡ map (told M.Market.told) answers.old.items
+            ++ session_answers (session_world M.Market.meaning S.IntervalSource.meaning R.Ranking.ahead self.old)
+            (session_now M.Market.position S.IntervalSource.position self.old) calls.items }
+        ensures session { session_now M.Market.position S.IntervalSource.position self.new
+            ≡ session_end (session_world M.Market.meaning S.IntervalSource.meaning R.Ranking.ahead self.old)
+            (session_now M.Market.position S.IntervalSource.position self.old) calls.items }
         ensures ranking { self.new.room.ranking ≡ self.old.room.ranking }
     {
         for call in calls {
@@ -193,8 +209,9 @@ impl<M: Market, R: Ranking, S: IntervalSource> Session<M, R, S> {
         }
     }
 
-    /// Carries out the calls in order, and answers each. All memory is taken before the first call: where it is wanting the
-    /// calls come back, none was made, and the room and the claims are as they were.
+    /// Carries out the calls in order, and answers each. A collecting whose claim the session does not hold
+    /// makes no call. All memory is taken before the first call: where it is wanting the calls come back,
+    /// none was made, and the room and the claims are as they were.
     pub fn run(
         &mut self,
         heap: Global,
@@ -202,7 +219,10 @@ impl<M: Market, R: Ranking, S: IntervalSource> Session<M, R, S> {
     ) -> Result<Vec<Answer<M::Fault>>, Vec<Call<M::Tick>>>
     where
         M::Tick: Drop,
-        ensures run { IfOk result (λ answers. RunAsModelled M.Market.told M.Market.position S.IntervalSource.position (session_world M.Market.meaning S.IntervalSource.meaning R.Ranking.ahead self.old) self.old self.new (vec_items calls) (vec_items answers)) }
+        ensures run { IfOk result (λ answers.
+            RunAsModelled M.Market.told M.Market.position S.IntervalSource.position
+            (session_world M.Market.meaning S.IntervalSource.meaning R.Ranking.ahead self.old)
+            self.old self.new (vec_items calls) (vec_items answers)) }
         ensures calls_back { IfErr result (λ back. back ≡ calls) }
         ensures room_back { OnErr result (self.new.room ≡ self.old.room) }
         ensures claims_back { OnErr result (self.new.purse.numbers ≡ self.old.purse.numbers) }

@@ -5,7 +5,7 @@ use allocation::fill::{FillRow, LEAST_ROWS};
 use std::alloc::{AllocError, Global};
 use std::marker::Model;
 
-// Each list is empty and has a place for every row. A contract sees how many there are.
+// Each list is empty and has memory for every row. A contract sees how many there are.
 #[derive(Drop)]
 pub(crate) struct RowLists {
     lists: Vec<Vec<FillRow>>,
@@ -18,9 +18,9 @@ impl Model for RowLists {
 
     ghost Value = { ℕ };
 
-    ghost view = { λ kept. vec_len kept.lists };
+    ghost view = { λ l. vec_len l.lists };
 
-    ghost invariant = { λ kept. All TakesEveryRow kept.lists.items };
+    ghost invariant = { λ l. All TakesEveryRow l.lists.items };
 }
 
 impl RowLists {
@@ -32,6 +32,7 @@ impl RowLists {
         }
     }
 
+    // Takes memory for one list more.
     fn add(&mut self, heap: Global) -> Result<(), AllocError>
         ensures { OnOk result (self.new ≡ self.old + 1) }
     {
@@ -40,19 +41,19 @@ impl RowLists {
         Ok(())
     }
 
-    // So many at least.
+    // Takes memory until there are so many lists, or more.
     pub(crate) fn reserve(&mut self, heap: Global, lists: usize) -> Result<(), AllocError>
         ensures { OnOk result (lists ≤ self.new) }
     {
-        for _held in self.lists.len()..lists {
+        for _count in self.lists.len()..lists {
             self.add(heap)?;
         }
         Ok(())
     }
 
-    // One of the lists, with these rows.
+    // Takes out one of the lists, with these rows in it.
     pub(crate) fn take(&mut self, rows: &[FillRow]) -> Vec<FillRow>
-        requires kept { 1 ≤ self.old }
+        requires any { 1 ≤ self.old }
         requires few { length rows.now ≤ 129 }
         ensures rows { result.items ≡ rows.now }
         ensures one { self.new + 1 ≡ self.old }

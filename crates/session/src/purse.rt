@@ -1,4 +1,4 @@
-// The purse of a session: the claims that are held, with places for those to come.
+// The purse of a session: the claims that it holds, and free memory for those to come.
 ghost use Rattle.std.specs.Prelude.{◌≡◌, ◌+◌, ◌-◌, ◌≤◌, [], ◌∷◌, ◌++◌, length, map, if◌then◌else◌, Some, None as Nothing, position, vec_len, vec_capacity, MatchOption, OnOk};
 ghost use Rattle.std.specs.List.{insert};
 ghost use Rattle.std.specs.Option.{option_map};
@@ -10,7 +10,7 @@ use room::claim::Claim;
 use std::alloc::AllocError;
 use std::marker::Model;
 
-// A contract sees the numbers of the claims, and how many places are free.
+// A contract sees the numbers of the claims, and for how many more memory is free.
 pub(crate) struct Purse {
     claims: Vec<Claim>,
 }
@@ -22,17 +22,20 @@ impl Model for Purse {
 
     ghost Value = { PurseValue };
 
-    ghost view = { λ p. record { numbers = map claim_numbers p.claims.items; places = vec_capacity p.claims - vec_len p.claims } };
+    ghost view = { λ p. record {
+      numbers = map claim_numbers p.claims.items;
+      free = vec_capacity p.claims - vec_len p.claims;
+    } };
 }
 
-// A claim that was taken out of a purse, and its place there.
-pub(crate) struct Taken {
+// A claim that was taken out of a purse, and its index there.
+pub(crate) struct TakenClaim {
     pub(crate) claim: Claim,
-    pub(crate) place: usize,
+    pub(crate) index: usize,
 }
 
-// The place of the first claim of these numbers.
-fn place_of(claims: &[Claim], numbers: &ClaimNumbers) -> Option<usize>
+// The index of the first claim of these numbers.
+fn index_of(claims: &[Claim], numbers: &ClaimNumbers) -> Option<usize>
     ensures { result ≡ position (λ claim. same_claim (claim_numbers claim) numbers.now) claims.now }
 {
     claims.iter().position(|claim| claim.numbers() == *numbers)
@@ -41,7 +44,7 @@ fn place_of(claims: &[Claim], numbers: &ClaimNumbers) -> Option<usize>
 impl Purse {
     pub(crate) fn new(claims: Vec<Claim>) -> Purse
         ensures numbers { result.numbers ≡ map claim_numbers claims.items }
-        ensures places { result.places ≡ vec_capacity claims - vec_len claims }
+        ensures free { result.free ≡ vec_capacity claims - vec_len claims }
     {
         Purse { claims }
     }
@@ -53,42 +56,46 @@ impl Purse {
         claims
     }
 
-    // Places for so many claims more.
-    pub(crate) fn reserve(&mut self, places: usize) -> Result<(), AllocError>
-        ensures places { OnOk result (places ≤ self.new.places) }
+    // Takes memory for so many claims more.
+    pub(crate) fn reserve(&mut self, more: usize) -> Result<(), AllocError>
+        ensures free { OnOk result (more ≤ self.new.free) }
         ensures numbers { self.new.numbers ≡ self.old.numbers }
     {
-        self.claims.try_reserve(places)
+        self.claims.try_reserve(more)
     }
 
     // Takes out the first claim of these numbers; where there is none, the purse is as it was.
-    pub(crate) fn take(&mut self, numbers: &ClaimNumbers) -> Option<Taken>
-        ensures claim { option_map taken_numbers result ≡ (if holds numbers.now self.old.numbers then Some numbers.now else Nothing) }
+    pub(crate) fn take(&mut self, numbers: &ClaimNumbers) -> Option<TakenClaim>
+        ensures claim { option_map taken_numbers result
+            ≡ (if holds numbers.now self.old.numbers then Some numbers.now else Nothing) }
         ensures others { self.new.numbers ≡ without_claim numbers.now self.old.numbers }
-        ensures place { MatchOption result (self.new.numbers ≡ self.old.numbers) (λ t. (t.place ≤ length self.new.numbers) × (insert self.new.numbers t.place (taken_numbers t) ≡ self.old.numbers)) }
-        ensures places { MatchOption result (self.new.places ≡ self.old.places) (λ _. self.new.places ≡ self.old.places + 1) }
+        ensures index { MatchOption result (self.new.numbers ≡ self.old.numbers) (λ t.
+            (t.index ≤ length self.new.numbers)
+            × (insert self.new.numbers t.index (taken_numbers t) ≡ self.old.numbers)) }
+        ensures free { MatchOption result (self.new.free ≡ self.old.free) (λ _. self.new.free ≡ self.old.free + 1) }
     {
-        let at = place_of(&self.claims, numbers)?;
-        Some(Taken {
-            claim: self.claims.remove(at),
-            place: at,
+        let index = index_of(&self.claims, numbers)?;
+        Some(TakenClaim {
+            claim: self.claims.remove(index),
+            index,
         })
     }
 
-    // Puts a claim at this place, before those that stand there and behind it.
-    pub(crate) fn put_at(&mut self, place: usize, claim: Claim)
-        requires within { place ≤ length self.old.numbers }
-        requires free { 1 ≤ self.old.places }
-        ensures numbers { self.new.numbers ≡ insert self.old.numbers place (claim_numbers claim) }
-        ensures places { self.new.places + 1 ≡ self.old.places }
+    // Puts a claim to this index, before the one that stands there and those behind it.
+    pub(crate) fn put_back(&mut self, index: usize, claim: Claim)
+        requires within { index ≤ length self.old.numbers }
+        requires free { 1 ≤ self.old.free }
+        ensures numbers { self.new.numbers ≡ insert self.old.numbers index (claim_numbers claim) }
+        ensures free { self.new.free + 1 ≡ self.old.free }
     {
-        self.claims.insert(place, claim).unwrap();
+        self.claims.insert(index, claim).unwrap();
     }
 
-    pub(crate) fn put(&mut self, claim: Claim)
-        requires { 1 ≤ self.old.places }
+    // Adds a claim behind the others.
+    pub(crate) fn add(&mut self, claim: Claim)
+        requires { 1 ≤ self.old.free }
         ensures numbers { self.new.numbers ≡ self.old.numbers ++ claim_numbers claim ∷ [] }
-        ensures places { self.new.places + 1 ≡ self.old.places }
+        ensures free { self.new.free + 1 ≡ self.old.free }
     {
         self.claims.push_reserved(claim);
     }

@@ -3,10 +3,7 @@
 -- the runs for each cause.
 use Rattle.std.specs.Prelude.{◌≡◌, ℕ, true, List, [], ◌∷◌, drop, ℤ, pos, neg_ℤ, Some}
 use Rattle.std.specs.Str.{byte}
-use Rattle.market.specs.declared.better_of.Half.{Half}
-use Rattle.market.specs.Fault.{FaultTold}
-use Rattle.market.specs.declared.leg.LegTick.{LegTick}
-use Rattle.market.specs.declared.quote.Quote.{Quote}
+use Rattle.market.specs.Cube.{CubeTick, CubeFaultTold}
 use Rattle.market.specs.declared.side.Side.TheVariants.{Buy, Sell}
 use Rattle.interval.specs.declared.fixed.FixedInterval.{FixedInterval}
 use Rattle.allocation.specs.declared.order.Guarantee.{Guarantee}
@@ -14,7 +11,7 @@ use Rattle.allocation.specs.declared.response.Class.{Class}
 use Rattle.allocation.specs.declared.response.Class.TheVariants.{Customer, Other}
 use Rattle.allocation.specs.declared.response.Kind.{Kind}
 use Rattle.allocation.specs.declared.response.Kind.TheVariants.{Sealed, Plain}
-use Rattle.allocation.specs.FillLaws.{Told}
+use Rattle.allocation.specs.FillLaws.{StoodResponse}
 use Rattle.session.specs.History.{Exchange, OpeningFacts, story_of, was_collected, waiting_then, view_then}
 use Rattle.session.specs.Moments.{times_ended, history_of}
 use Rattle.session.specs.Runs.{Looked, run}
@@ -32,7 +29,7 @@ abbrev pub moments : List Line → List (CubeMoment FixedInterval)
 moments ls = newest_first [] (run by_arrival this_room unquoted_market hundred (day_calls ls))
 
 -- Its history.
-abbrev pub history : List Line → List (Exchange (Half Quote LegTick) (Half FaultTold FaultTold))
+abbrev pub history : List Line → List (Exchange CubeTick CubeFaultTold)
 history ls = history_of (moments ls)
 
 -- An order to buy as handed in, and opened on the market that shows 294 and 304 with an interval of 100: time, size, limit
@@ -55,14 +52,14 @@ sold_at t size limit g initiating = record {
 }
 
 -- A response that stood: kind and class, member and own number, size and price, not turned, and arrival.
-abbrev pub standing : Kind → Class → ℕ → ℕ → ℕ → ℕ → ℕ → Told
-standing kind class member own size price arrival =
-    record { member = member; own = own; price = pos price; class = class; kind = kind; size = size; arrival = arrival }
+abbrev pub standing : Kind → Class → ℕ → ℕ → ℕ → ℕ → ℕ → StoodResponse
+standing kind class member own_number size price arrival =
+    record { member = member; own_number = own_number; price = pos price; class = class; kind = kind; size = size; arrival = arrival }
 
 -- The history of a day tells this of auction 1: its opening, its floor (turned), the responses that stood, the members of
 -- the responses and changes that it accepted, the last first, and its cause. It ended at one moment. The last call collected
 -- it: before it a look tells this, and after it none waits.
-abbrev pub Tells : List Line → OpeningFacts → ℤ → List Told → List ℕ → ℕ → CubeAnswer → Type 0
+abbrev pub Tells : List Line → OpeningFacts → ℤ → List StoodResponse → List ℕ → ℕ → CubeAnswer → Type 0
 Tells ls facts floor stood storing cause look =
     (story_of by_arrival unquoted_market hundred 1 (history ls) ≡ Some (record { opening = facts; floor = floor; stood = stood; storers = storing; ended = Some cause }))
     × (times_ended 1 (moments ls) ≡ 1)

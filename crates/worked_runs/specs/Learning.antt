@@ -80,7 +80,7 @@ shown_to_member_5 =
     ∷ None
     ∷ []
 
--- The two days are alike to member 5, auctions open and end at the same places, and it is shown the same, though the
+-- The two days are alike to member 5, auctions open and end at the same calls, and it is shown the same, though the
 -- contracts are shared otherwise.
 abbrev pub Member5IsShownTheSame : Type 0
 Member5IsShownTheSame =

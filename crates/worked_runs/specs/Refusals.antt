@@ -44,7 +44,7 @@ PriceOutsideItsLimits =
     ∷ buys 10000 100 310 (stop 40000000) ⇒ refused 16
     ∷ buys 10000 100 310 (stop 300) ⇒ claim 1
     ∷ offers Sealed Other 10010 2 1 10 40000001 ⇒ refused 2
-    ∷ Respond (record { time = 10010; member = 2; own = 1; side = Sell; kind = Plain; class = Other; size = 10; price = neg_ℤ (pos 40000001) }) ⇒ refused 2
+    ∷ Respond (record { time = 10010; member = 2; own_number = 1; side = Sell; kind = Plain; class = Other; size = 10; price = neg_ℤ (pos 40000001) }) ⇒ refused 2
     ∷ offers Sealed Other 10010 2 1 10 40000000 ⇒ refused 23
     ∷ offers Sealed Other 10020 2 1 10 296 ⇒ stored 10 296
     ∷ changes 10030 2 1 10 40000001 ⇒ refused 2
@@ -326,7 +326,7 @@ auction_with_used n = record {
     order = record { side = Buy; size = 100; limit = pos 310; guarantee = stop 300 };
     floor = pos 294;
     initiating = pos 304;
-    stood = record { member = 2; own = 1; kind = Sealed; class = Other; size = 10; price = pos 296; arrival = n } ∷ [];
+    stood = record { member = 2; own_number = 1; kind = Sealed; class = Other; size = 10; price = pos 296; arrival = n } ∷ [];
   };
 }
 

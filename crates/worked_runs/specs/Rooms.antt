@@ -1,13 +1,9 @@
 -- The rooms of these runs: over the CUBE market of two legs, one bought and one sold.
 use Rattle.std.specs.Prelude.{◌≡◌, ℕ, List, [], ◌∷◌, ◌++◌, map}
 use Rattle.std.proofs.Common.{lit≤}
-use Rattle.market.specs.declared.better_of.Half.{Half}
 use Rattle.market.specs.declared.leg.Leg.{Leg}
-use Rattle.market.specs.declared.leg.LegTick.{LegTick}
-use Rattle.market.specs.declared.quote.Quote.{Quote}
 use Rattle.market.specs.declared.side.Side.TheVariants.{Buy, Sell}
-use Rattle.market.specs.Fault.{FaultTold}
-use Rattle.market.specs.Cube.{CubePosition, cube_start, cube_meaning}
+use Rattle.market.specs.Cube.{CubeTick, CubeFaultTold, CubePosition, cube_start, cube_meaning}
 use Rattle.market.specs.Leg.{new_leg}
 use Rattle.interval.specs.declared.fixed.FixedInterval.{FixedInterval}
 use Rattle.interval.specs.Fixed.{fixed_meaning}
@@ -20,10 +16,10 @@ use Rattle.worked_runs.specs.Script.{CubeCall, CubeAnswer, Line, ◌⇒◌, call
 
 -- Ticks and faults of the CUBE market, beside its position, over a source of positions Q.
 abbrev pub CubeWorld : Type 0 → Type 0
-CubeWorld Q = World CubePosition (Half Quote LegTick) (Half FaultTold FaultTold) Q
+CubeWorld Q = World CubePosition CubeTick CubeFaultTold Q
 
 abbrev pub CubeMoment : Type 0 → Type 0
-CubeMoment Q = Moment CubePosition (Half Quote LegTick) (Half FaultTold FaultTold) Q
+CubeMoment Q = Moment CubePosition CubeTick CubeFaultTold Q
 
 abbrev pub CubeRoom : Type 0 → Type 0
 CubeRoom Q = RoomState CubePosition Q

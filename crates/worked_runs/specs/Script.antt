@@ -1,12 +1,9 @@
 -- How a run is written: a list of calls, each beside the answer that it gets.
 use Rattle.std.specs.Prelude.{ℕ, true, false, List, map, pos, Some, None}
-use Rattle.market.specs.declared.better_of.Half.{Half}
 use Rattle.market.specs.declared.better_of.Half.TheVariants.{Left, Right}
-use Rattle.market.specs.declared.leg.LegTick.{LegTick}
-use Rattle.market.specs.declared.quote.Quote.{Quote}
 use Rattle.market.specs.declared.side.Side.{Side}
 use Rattle.market.specs.declared.side.Side.TheVariants.{Buy, Sell}
-use Rattle.market.specs.Fault.{FaultTold}
+use Rattle.market.specs.Cube.{CubeTick, CubeFaultTold}
 use Rattle.allocation.specs.declared.fill.FillRow.{FillRow}
 use Rattle.allocation.specs.declared.order.Guarantee.{Guarantee}
 use Rattle.allocation.specs.declared.order.GuaranteeKind.TheVariants.{SingleStop, AutoMatchLimit}
@@ -22,10 +19,10 @@ use Rattle.session.specs.Runs.{Answer, Opened, Stored, Accepted, Looked, Collect
 
 -- A tick of the CUBE market is for the book, its left half, or for a leg, its right half; a fault tells which refused.
 abbrev pub CubeCall : Type 0
-CubeCall = Call (Half Quote LegTick)
+CubeCall = Call CubeTick
 
 abbrev pub CubeAnswer : Type 0
-CubeAnswer = Answer (Half FaultTold FaultTold)
+CubeAnswer = Answer CubeFaultTold
 
 -- A line of a script: a call, and what it is answered.
 pub record Line : Type 0 where
@@ -87,8 +84,8 @@ sells t = opens t 1 Sell
 
 -- A response: side, kind and class, member and own number, size and price.
 abbrev pub responds : Side → Kind → Class → ℕ → ℕ → ℕ → ℕ → ℕ → CubeCall
-responds side kind class t member own size price =
-    Respond (record { time = t; member = member; own = own; side = side; kind = kind; class = class; size = size; price = pos price })
+responds side kind class t member own_number size price =
+    Respond (record { time = t; member = member; own_number = own_number; side = side; kind = kind; class = class; size = size; price = pos price })
 
 -- To an order to buy one offers, and to an order to sell one bids: kind and class, time, member and own number, size and
 -- price.
@@ -100,11 +97,11 @@ bids = responds Buy
 
 -- A change: member and own number, new size and price.
 abbrev pub changes : ℕ → ℕ → ℕ → ℕ → ℕ → CubeCall
-changes t member own size price = Change (record { time = t; member = member; own = own; size = size; price = pos price })
+changes t member own_number size price = Change (record { time = t; member = member; own_number = own_number; size = size; price = pos price })
 
 -- A withdrawal: member and own number.
 abbrev pub withdraws : ℕ → ℕ → ℕ → CubeCall
-withdraws t member own = Withdraw (record { time = t; member = member; own = own })
+withdraws t member own_number = Withdraw (record { time = t; member = member; own_number = own_number })
 
 abbrev pub halts : ℕ → CubeCall
 halts t = Halt t
@@ -161,12 +158,12 @@ collected count cause rows = Collected (record { count = count; cause = cause })
 
 -- A row of a response: kind and class, member and own number, price, filled and left.
 abbrev pub row : Kind → Class → ℕ → ℕ → ℕ → ℕ → ℕ → FillRow
-row kind class member own price filled left =
-    record { price = pos price; member = member; own = own; class = class; kind = kind; filled = filled; left = left }
+row kind class member own_number price filled left =
+    record { price = pos price; member = member; own_number = own_number; class = class; kind = kind; filled = filled; left = left }
 
 -- A row of the contra firm: price and filled.
 abbrev pub contra_row : ℕ → ℕ → FillRow
-contra_row price filled = record { price = pos price; member = 0; own = 0; class = Other; kind = Plain; filled = filled; left = 0 }
+contra_row price filled = record { price = pos price; member = 0; own_number = 0; class = Other; kind = Plain; filled = filled; left = 0 }
 
 -- The refusal of this number.
 abbrev pub refused : ℕ → CubeAnswer

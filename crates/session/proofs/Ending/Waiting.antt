@@ -2,7 +2,7 @@
 use Rattle.std.proofs.Common.{◌≡◌, ℕ, ◌+◌, Bool, true, false, cond, eqb, List, [], ◌∷◌, ◌++◌, length, Some, None, Option, sym, refl, ap, ◌∙◌, arith}
 use Rattle.std.proofs.lemmas.Bool.Decides.{nat_tests}
 use Rattle.std.proofs.lemmas.List.{length_push}
-use Rattle.room.specs.State.{OpenValues, EndedValues, closed, is_number, numbered, without_number}
+use Rattle.room.specs.State.{OpenValues, EndedValues, waiting_after_end, is_number, waiting_auction, without_number}
 use Rattle.room.proofs.Tests.{none_some, true_false}
 use Rattle.session.proofs.Choices.{cond_some_none}
 
@@ -12,57 +12,57 @@ as_ended c a = record { number = a.number; values = a.values; cause = c }
 
 -- at most one of this number waits
 abbrev pub Once : ℕ → List EndedValues → Type 0
-Once n es = numbered n (without_number n es) ≡ None
+Once n es = waiting_auction n (without_number n es) ≡ None
 
 -- another that waits behind the others
-pub numbered_other : (n : ℕ) (es : List EndedValues) (e : EndedValues) → eqb e.number n ≡ false → numbered n (es ++ e ∷ []) ≡ numbered n es
+pub numbered_other : (n : ℕ) (es : List EndedValues) (e : EndedValues) → eqb e.number n ≡ false → waiting_auction n (es ++ e ∷ []) ≡ waiting_auction n es
 numbered_other n [] e h = ap (λ (b : Bool). cond b (Some e) None) h
 numbered_other n (x ∷ xs) e h = ap (λ o. cond (eqb x.number n) (Some x) o) (numbered_other n xs e h)
 
 -- the first of its number that waits
-pub numbered_new : (n : ℕ) (es : List EndedValues) (e : EndedValues) → numbered n es ≡ None → eqb e.number n ≡ true → numbered n (es ++ e ∷ []) ≡ Some e
+pub numbered_new : (n : ℕ) (es : List EndedValues) (e : EndedValues) → waiting_auction n es ≡ None → eqb e.number n ≡ true → waiting_auction n (es ++ e ∷ []) ≡ Some e
 numbered_new n [] e h k = ap (λ (b : Bool). cond b (Some e) None) k
 numbered_new n (x ∷ xs) e h k =
-    let past = cond_some_none (eqb x.number n) x (numbered n xs) h in
-    ap (λ (b : Bool). cond b (Some x) (numbered n (xs ++ e ∷ []))) past.0 ∙ numbered_new n xs e past.1 k
+    let past = cond_some_none (eqb x.number n) x (waiting_auction n xs) h in
+    ap (λ (b : Bool). cond b (Some x) (waiting_auction n (xs ++ e ∷ []))) past.0 ∙ numbered_new n xs e past.1 k
 
-without_none : (n : ℕ) (es : List EndedValues) → numbered n es ≡ None → without_number n es ≡ es
+without_none : (n : ℕ) (es : List EndedValues) → waiting_auction n es ≡ None → without_number n es ≡ es
 without_none n [] h = refl
 without_none n (x ∷ xs) h =
-    let past = cond_some_none (eqb x.number n) x (numbered n xs) h in
+    let past = cond_some_none (eqb x.number n) x (waiting_auction n xs) h in
     ap (λ (b : Bool). cond b xs (x ∷ without_number n xs)) past.0 ∙ ap (λ l. x ∷ l) (without_none n xs past.1)
 
-pub once_of_none : (n : ℕ) (es : List EndedValues) → numbered n es ≡ None → Once n es
-once_of_none n es h = ap (numbered n) (without_none n es h) ∙ h
+pub once_of_none : (n : ℕ) (es : List EndedValues) → waiting_auction n es ≡ None → Once n es
+once_of_none n es h = ap (waiting_auction n) (without_none n es h) ∙ h
 
-pub once_new : (n : ℕ) (es : List EndedValues) (e : EndedValues) → numbered n es ≡ None → eqb e.number n ≡ true → Once n (es ++ e ∷ [])
-once_new n [] e h k = ap (λ (b : Bool). numbered n (cond b [] (e ∷ []))) k
+pub once_new : (n : ℕ) (es : List EndedValues) (e : EndedValues) → waiting_auction n es ≡ None → eqb e.number n ≡ true → Once n (es ++ e ∷ [])
+once_new n [] e h k = ap (λ (b : Bool). waiting_auction n (cond b [] (e ∷ []))) k
 once_new n (x ∷ xs) e h k =
-    let past = cond_some_none (eqb x.number n) x (numbered n xs) h in
-    ap (λ (b : Bool). numbered n (cond b (xs ++ e ∷ []) (x ∷ without_number n (xs ++ e ∷ [])))) past.0
-    ∙ ap (λ (b : Bool). cond b (Some x) (numbered n (without_number n (xs ++ e ∷ [])))) past.0
+    let past = cond_some_none (eqb x.number n) x (waiting_auction n xs) h in
+    ap (λ (b : Bool). waiting_auction n (cond b (xs ++ e ∷ []) (x ∷ without_number n (xs ++ e ∷ [])))) past.0
+    ∙ ap (λ (b : Bool). cond b (Some x) (waiting_auction n (without_number n (xs ++ e ∷ [])))) past.0
     ∙ once_new n xs e past.1 k
 
 once_at : (b : Bool) (n : ℕ) (x e : EndedValues) (xs : List EndedValues) → eqb x.number n ≡ b → eqb e.number n ≡ false
-    → (Once n xs → Once n (xs ++ e ∷ [])) → numbered n (cond b xs (x ∷ without_number n xs)) ≡ None → numbered n (cond b (xs ++ e ∷ []) (x ∷ without_number n (xs ++ e ∷ []))) ≡ None
+    → (Once n xs → Once n (xs ++ e ∷ [])) → waiting_auction n (cond b xs (x ∷ without_number n xs)) ≡ None → waiting_auction n (cond b (xs ++ e ∷ []) (x ∷ without_number n (xs ++ e ∷ []))) ≡ None
 once_at true n x e xs h k again o = numbered_other n xs e k ∙ o
 once_at false n x e xs h k again o =
-    let past = cond_some_none (eqb x.number n) x (numbered n (without_number n xs)) o in
-    ap (λ (b : Bool). cond b (Some x) (numbered n (without_number n (xs ++ e ∷ [])))) h ∙ again past.1
+    let past = cond_some_none (eqb x.number n) x (waiting_auction n (without_number n xs)) o in
+    ap (λ (b : Bool). cond b (Some x) (waiting_auction n (without_number n (xs ++ e ∷ [])))) h ∙ again past.1
 
 pub once_other : (n : ℕ) (es : List EndedValues) (e : EndedValues) → eqb e.number n ≡ false → Once n es → Once n (es ++ e ∷ [])
-once_other n [] e h o = ap (λ (b : Bool). numbered n (cond b [] (e ∷ []))) h ∙ ap (λ (b : Bool). cond b (Some e) None) h
+once_other n [] e h o = ap (λ (b : Bool). waiting_auction n (cond b [] (e ∷ []))) h ∙ ap (λ (b : Bool). cond b (Some e) None) h
 once_other n (x ∷ xs) e h o = once_at (eqb x.number n) n x e xs refl h (once_other n xs e h) o
 
 -- one fewer of another number
-without_at : (b : Bool) (n : ℕ) (x : EndedValues) (xs ys : List EndedValues) → (b ≡ true → eqb x.number n ≡ false) → numbered n ys ≡ numbered n xs → numbered n (cond b xs (x ∷ ys)) ≡ numbered n (x ∷ xs)
-without_at true n x xs ys h e = sym (ap (λ (b : Bool). cond b (Some x) (numbered n xs)) (h refl))
+without_at : (b : Bool) (n : ℕ) (x : EndedValues) (xs ys : List EndedValues) → (b ≡ true → eqb x.number n ≡ false) → waiting_auction n ys ≡ waiting_auction n xs → waiting_auction n (cond b xs (x ∷ ys)) ≡ waiting_auction n (x ∷ xs)
+without_at true n x xs ys h e = sym (ap (λ (b : Bool). cond b (Some x) (waiting_auction n xs)) (h refl))
 without_at false n x xs ys h e = ap (λ o. cond (eqb x.number n) (Some x) o) e
 
 other_number : (a k n : ℕ) → eqb k n ≡ false → eqb a k ≡ true → eqb a n ≡ false
 other_number a k n h e = grind (arith, nat_tests)
 
-pub numbered_without_other : (k n : ℕ) (es : List EndedValues) → eqb k n ≡ false → numbered n (without_number k es) ≡ numbered n es
+pub numbered_without_other : (k n : ℕ) (es : List EndedValues) → eqb k n ≡ false → waiting_auction n (without_number k es) ≡ waiting_auction n es
 numbered_without_other k n [] h = refl
 numbered_without_other k n (x ∷ xs) h =
     without_at (eqb x.number k) n x xs (without_number k xs) (other_number x.number k n h) (numbered_without_other k n xs h)
@@ -86,25 +86,25 @@ without_swap k n (x ∷ xs) h =
     swap_at (eqb x.number k) (eqb x.number n) x xs (without_number k xs) (without_number n xs) k n refl refl (not_both x.number k n h) refl refl (without_swap k n xs h)
 
 pub once_without_other : (k n : ℕ) (es : List EndedValues) → eqb k n ≡ false → Once n es → Once n (without_number k es)
-once_without_other k n es h o = ap (numbered n) (without_swap k n es h) ∙ numbered_without_other k n (without_number n es) h ∙ o
+once_without_other k n es h o = ap (waiting_auction n) (without_swap k n es h) ∙ numbered_without_other k n (without_number n es) h ∙ o
 
 -- an open auction of another number, or none, that ends
-pub closed_other : (c : ℕ) (n : ℕ) (o : Option OpenValues) (es : List EndedValues) → is_number n o ≡ false → numbered n (closed c o es) ≡ numbered n es
+pub closed_other : (c : ℕ) (n : ℕ) (o : Option OpenValues) (es : List EndedValues) → is_number n o ≡ false → waiting_auction n (waiting_after_end c o es) ≡ waiting_auction n es
 closed_other c n None es h = refl
 closed_other c n (Some a) es h = numbered_other n es (as_ended c a) h
 
-pub once_closed : (c : ℕ) (n : ℕ) (o : Option OpenValues) (es : List EndedValues) → is_number n o ≡ false → Once n es → Once n (closed c o es)
+pub once_closed : (c : ℕ) (n : ℕ) (o : Option OpenValues) (es : List EndedValues) → is_number n o ≡ false → Once n es → Once n (waiting_after_end c o es)
 once_closed c n None es h k = k
 once_closed c n (Some a) es h k = once_other n es (as_ended c a) h k
 
 -- how many wait
-without_length_at : (b : Bool) (n : ℕ) (x e : EndedValues) (xs : List EndedValues) → (numbered n xs ≡ Some e → length (without_number n xs) + 1 ≡ length xs) → cond b (Some x) (numbered n xs) ≡ Some e → length (cond b xs (x ∷ without_number n xs)) + 1 ≡ length (x ∷ xs)
+without_length_at : (b : Bool) (n : ℕ) (x e : EndedValues) (xs : List EndedValues) → (waiting_auction n xs ≡ Some e → length (without_number n xs) + 1 ≡ length xs) → cond b (Some x) (waiting_auction n xs) ≡ Some e → length (cond b xs (x ∷ without_number n xs)) + 1 ≡ length (x ∷ xs)
 without_length_at true n x e xs again h = omega arith
 without_length_at false n x e xs again h = let less = again h in omega arith
 
-pub without_length : (n : ℕ) (es : List EndedValues) (e : EndedValues) → numbered n es ≡ Some e → length (without_number n es) + 1 ≡ length es
+pub without_length : (n : ℕ) (es : List EndedValues) (e : EndedValues) → waiting_auction n es ≡ Some e → length (without_number n es) + 1 ≡ length es
 without_length n [] e h = none_some e h
 without_length n (x ∷ xs) e h = without_length_at (eqb x.number n) n x e xs (without_length n xs e) h
 
-pub closed_length : (c : ℕ) (a : OpenValues) (es : List EndedValues) → length (closed c (Some a) es) ≡ length es + 1
+pub closed_length : (c : ℕ) (a : OpenValues) (es : List EndedValues) → length (waiting_after_end c (Some a) es) ≡ length es + 1
 closed_length c a es = length_push es (as_ended c a)

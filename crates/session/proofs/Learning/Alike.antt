@@ -6,8 +6,8 @@ use Rattle.session.specs.Learning.{HiddenOrEqual, hidden_from, price_inside, siz
 
 pub one_to_itself : {T : Type 0} (u : ℕ) (c : Call T) → Alike u c c
 one_to_itself u (Open x) = record { time = refl; member = refl; side = refl; size = refl; limit = refl; guarantee_price = inr refl }
-one_to_itself u (Respond x) = record { time = refl; member = refl; own = refl; side = refl; kind = refl; price = inr refl; size = inr refl; class = inr refl }
-one_to_itself u (Change x) = record { time = refl; member = refl; own = refl; price = inr refl; size = inr refl }
+one_to_itself u (Respond x) = record { time = refl; member = refl; own_number = refl; side = refl; kind = refl; price = inr refl; size = inr refl; class = inr refl }
+one_to_itself u (Change x) = record { time = refl; member = refl; own_number = refl; price = inr refl; size = inr refl }
 one_to_itself u c = refl
 
 pub alike_to_itself : {T : Type 0} → AlikeToItself T
@@ -36,7 +36,7 @@ one_both_ways u (Open x) (Open y) a = record {
 one_both_ways u (Respond x) (Respond y) a = record {
   time = sym a.time;
   member = sym a.member;
-  own = sym a.own;
+  own_number = sym a.own_number;
   side = sym a.side;
   kind = sym a.kind;
   price = sent_either_way u x.member y.member price_inside x.price y.price a.member a.price;
@@ -46,7 +46,7 @@ one_both_ways u (Respond x) (Respond y) a = record {
 one_both_ways u (Change x) (Change y) a = record {
   time = sym a.time;
   member = sym a.member;
-  own = sym a.own;
+  own_number = sym a.own_number;
   price = sent_either_way u x.member y.member price_inside x.price y.price a.member a.price;
   size = sent_either_way u x.member y.member size_inside x.size y.size a.member a.size;
 }

@@ -9,7 +9,7 @@ use Rattle.room.specs.Checks.{collect_checks}
 use Rattle.room.specs.Clock.{due}
 use Rattle.room.specs.Collecting.{CollectionTold, waiting_now, collect_rows}
 use Rattle.room.specs.Refusals.{refuse, unless, outcome}
-use Rattle.room.specs.State.{EndedValues, RoomState, is_number, numbered, at_time, ended}
+use Rattle.room.specs.State.{EndedValues, RoomState, is_number, waiting_auction, at_time, after_end}
 use Rattle.room.specs.World.{World}
 use Rattle.room.proofs.Tests.{none_some}
 use Rattle.session.specs.declared.call.Call.{Call}
@@ -17,7 +17,7 @@ use Rattle.session.specs.declared.call.Call.TheVariants.{Open, Collect}
 use Rattle.session.specs.Claims.{claim_to}
 use Rattle.session.specs.History.{opened_number, is_collected}
 use Rattle.session.specs.Learning.{opens_here}
-use Rattle.session.specs.Runs.{Answer, Opened, Collected, answered, clock_stepped, moment, step}
+use Rattle.session.specs.Runs.{Answer, Opened, Collected, answer_of_result, after_clock_step, moment, step}
 use Rattle.session.specs.Purse.{claim_in, without_claim, purse_after, is_made}
 use Rattle.session.proofs.Ending.Shapes.{OpenedHere, opened_or_not, did}
 use Rattle.session.proofs.Learning.Hidden.{without_hidden}
@@ -56,11 +56,11 @@ module _ {P Q : Type 0} where
   abbrev next_claim : RoomState P Q → ClaimNumbers
   next_claim s = claim_to s.number (s.opened + 1)
 
-  due_leaves : (b : Bool) (s : RoomState P Q) → next_claim (cond b (ended (byte "T") s) s) ≡ next_claim s
+  due_leaves : (b : Bool) (s : RoomState P Q) → next_claim (cond b (after_end (byte "T") s) s) ≡ next_claim s
   due_leaves true s = refl
   due_leaves false s = refl
 
-  stepped_leaves : (r : Option ℕ) (t : Option ℕ) (s : RoomState P Q) → next_claim (clock_stepped r t s) ≡ next_claim s
+  stepped_leaves : (r : Option ℕ) (t : Option ℕ) (s : RoomState P Q) → next_claim (after_clock_step r t s) ≡ next_claim s
   stepped_leaves (Some e) t s = refl
   stepped_leaves None None s = refl
   stepped_leaves None (Some t) s = due_leaves (due (max s.time t) s.current) (at_time (max s.time t) s)
@@ -81,7 +81,7 @@ module _ {P T F Q : Type 0} (w : World P T F Q) (u : ℕ) (s : RoomState P Q) wh
 
   -- A collecting.
   collects_by : (a b : Option ℕ) (o : Option EndedValues) (effect : EndedValues → RoomState P Q) (tells : EndedValues → CollectionTold) (fs : List FillRow)
-      → is_collected (answered {F = F} (λ k. Collected k fs) (outcome (unless a (unless b (waiting_now o))) s effect tells).1)
+      → is_collected (answer_of_result {F = F} (λ k. Collected k fs) (outcome (unless a (unless b (waiting_now o))) s effect tells).1)
       ≡ is_ok (unless a (unless b (waiting_known (option_map (λ (e : EndedValues). e.number) o))))
   collects_by (Some f) b o effect tells fs = refl
   collects_by None (Some f) o effect tells fs = refl
@@ -92,7 +92,7 @@ module _ {P T F Q : Type 0} (w : World P T F Q) (u : ℕ) (s : RoomState P Q) wh
   collecting_known c n =
       let a : Option ℕ = collect_checks n in
       let b : Bool → Option ℕ = λ i. refuse (not (eqb c.room s.number)) 42 (refuse i 41 None) in
-      collects_by a (b (is_number c.auction s.current)) (numbered c.auction s.waiting) _ _ (collect_rows w s c n)
+      collects_by a (b (is_number c.auction s.current)) (waiting_auction c.auction s.waiting) _ _ (collect_rows w s c n)
       ∙ ap (λ o. is_ok (unless a (unless (b (is_number c.auction s.current)) (waiting_known o)))) (sym (numbered_follows c.auction s.waiting))
       ∙ ap (λ i. is_ok (unless a (unless (b i) (waiting_known (numbered_known c.auction (numbers s.waiting)))))) (sym (is_number_follows u c.auction s.current))
 

@@ -7,8 +7,8 @@ use Rattle.std.proofs.lemmas.List.{map-append}
 use Rattle.std.specs.Option.{option_map}
 use Rattle.allocation.specs.declared.response.Response.{Response}
 use Rattle.allocation.specs.Auction.{with_stood}
-use Rattle.room.specs.Clock.{due, clocked}
-use Rattle.room.specs.State.{OpenValues, EndedValues, RoomState, is_number, closed, at_time, with_current, ended}
+use Rattle.room.specs.Clock.{due, after_clock}
+use Rattle.room.specs.State.{OpenValues, EndedValues, RoomState, is_number, waiting_after_end, at_time, with_current, after_end}
 use Rattle.session.specs.Learning.{ends_of, ends_here}
 use Rattle.session.specs.Runs.{Moment}
 use Rattle.session.proofs.Learning.Known.{Known, KnownAuction, known, known_auction, own_rows, own_count, numbers, closed_known, due_known, ended_known, settled, clocked_known, with_auction_known}
@@ -36,7 +36,7 @@ module _ {P T F Q : Type 0} where
   pub ends_here_is : (m : Moment P T F Q) → ends_here m ≡ ends_in m.before.current m.after.current
   ends_here_is m = ends_of_is m m.before.current refl
 
-pub closed_follows : (u : ℕ) (c : ℕ) (o : Option OpenValues) (es : List EndedValues) → numbers (closed c o es) ≡ closed_known (option_map (known_auction u) o) (numbers es)
+pub closed_follows : (u : ℕ) (c : ℕ) (o : Option OpenValues) (es : List EndedValues) → numbers (waiting_after_end c o es) ≡ closed_known (option_map (known_auction u) o) (numbers es)
 closed_follows u c None es = refl
 closed_follows u c (Some a) es = map-append (λ (e : EndedValues). e.number) es (record { number = a.number; values = a.values; cause = c } ∷ [])
 
@@ -74,7 +74,7 @@ auction_rows u a xs arrivals used ys n h k =
 
 module _ {P Q : Type 0} (u : ℕ) where
   -- An auction ends.
-  pub ended_follows : (c : ℕ) (s : RoomState P Q) → known u (ended c s) ≡ ended_known (known u s)
+  pub ended_follows : (c : ℕ) (s : RoomState P Q) → known u (after_end c s) ≡ ended_known (known u s)
   ended_follows c s =
       ap (λ ns. record {
         number = s.number;
@@ -87,12 +87,12 @@ module _ {P Q : Type 0} (u : ℕ) where
         opened = s.opened;
       }) (closed_follows u c s.current s.waiting)
 
-  pub settled_follows : (c : ℕ) (b : Bool) (s : RoomState P Q) → known u (cond b (ended c s) s) ≡ settled b (known u s)
+  pub settled_follows : (c : ℕ) (b : Bool) (s : RoomState P Q) → known u (cond b (after_end c s) s) ≡ settled b (known u s)
   settled_follows c true s = ended_follows c s
   settled_follows c false s = refl
 
   -- The clock steps.
-  pub clocked_follows : (s : RoomState P Q) (t : ℕ) → known u (clocked s t) ≡ clocked_known (known u s) t
+  pub clocked_follows : (s : RoomState P Q) (t : ℕ) → known u (after_clock s t) ≡ clocked_known (known u s) t
   clocked_follows s t =
       let y = at_time (max s.time t) s in
       settled_follows (byte "T") (due y.time y.current) y
@@ -106,14 +106,14 @@ module _ {P Q : Type 0} (u : ℕ) where
   -- Where the clock step has ended the auction, it does not matter what is said of a further end.
   module _ (goes : Bool → Known P Q → Known P Q) (over : (b : Bool) (k : Known P Q) → goes b (ended_known k) ≡ goes false (ended_known k)) where
     after_step : (b : Bool) (y z : RoomState P Q)
-        → known u z ≡ goes (ends_in (cond b (ended (byte "T") y) y).current z.current) (known u (cond b (ended (byte "T") y) y))
-        → known u z ≡ goes (ends_in y.current z.current) (known u (cond b (ended (byte "T") y) y))
+        → known u z ≡ goes (ends_in (cond b (after_end (byte "T") y) y).current z.current) (known u (cond b (after_end (byte "T") y) y))
+        → known u z ≡ goes (ends_in y.current z.current) (known u (cond b (after_end (byte "T") y) y))
     after_step true y z h =
         let e = ends_in y.current z.current in
         h ∙ ap (goes false) (ended_follows (byte "T") y) ∙ sym (over e (known u y)) ∙ sym (ap (goes e) (ended_follows (byte "T") y))
     after_step false y z h = h
 
     pub ends_after_clock : (s : RoomState P Q) (t : ℕ) (z : RoomState P Q)
-        → known u z ≡ goes (ends_in (clocked s t).current z.current) (known u (clocked s t))
-        → known u z ≡ goes (ends_in s.current z.current) (known u (clocked s t))
+        → known u z ≡ goes (ends_in (after_clock s t).current z.current) (known u (after_clock s t))
+        → known u z ≡ goes (ends_in s.current z.current) (known u (after_clock s t))
     ends_after_clock s t z h = let y = at_time (max s.time t) s in after_step (due y.time y.current) y z h

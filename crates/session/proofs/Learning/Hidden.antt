@@ -15,7 +15,7 @@ use Rattle.session.specs.declared.call.Call.{Call}
 use Rattle.session.specs.declared.call.Call.TheVariants.{Open, Respond, Change}
 use Rattle.session.specs.Learning.{HiddenOrEqual, price_inside, size_inside, class_inside, OpeningsAlike, ResponsesAlike, ChangesAlike, Alike}
 
--- A term, or what stands in its place where it is hidden.
+-- A term, or what stands for it where it is hidden.
 abbrev pub kept_unless : {X : Type 0} → (X → Bool) → X → X → X
 kept_unless hidden blank x = cond (hidden x) blank x
 
@@ -36,7 +36,7 @@ abbrev pub response_without : Bool → ResponseRequest → ResponseRequest
 response_without is_own x = record {
   time = x.time;
   member = x.member;
-  own = x.own;
+  own_number = x.own_number;
   side = x.side;
   kind = x.kind;
   class = kept_unless (another_and is_own class_inside) Customer x.class;
@@ -48,7 +48,7 @@ abbrev pub change_without : Bool → ChangeRequest → ChangeRequest
 change_without is_own x = record {
   time = x.time;
   member = x.member;
-  own = x.own;
+  own_number = x.own_number;
   size = kept_unless (another_and is_own size_ok) 1 x.size;
   price = kept_unless (another_and is_own price_ok) (pos 0) x.price;
 }
@@ -75,8 +75,8 @@ same_test : {X : Type 0} (f g : X → Bool) (x y : X) → ((z : X) → f z ≡ g
 same_test f g x y e (inl h) = inl (sym (e x) ∙ h.0, sym (e y) ∙ h.1)
 same_test f g x y e (inr h) = inr h
 
-of_another : {X : Type 0} (own : Bool) (f g : X → Bool) (x y : X) → ((z : X) → f z ≡ g z) → HiddenOrEqual (another_and own f) x y → HiddenOrEqual (another_and own g) x y
-of_another own f g x y e = same_test (another_and own f) (another_and own g) x y (λ z. ap (λ b. not own && b) (e z))
+of_another : {X : Type 0} (mine : Bool) (f g : X → Bool) (x y : X) → ((z : X) → f z ≡ g z) → HiddenOrEqual (another_and mine f) x y → HiddenOrEqual (another_and mine g) x y
+of_another mine f g x y e = same_test (another_and mine f) (another_and mine g) x y (λ z. ap (λ b. not mine && b) (e z))
 
 openings_same : (x y : OpeningRequest) → OpeningsAlike x y → opening_without x ≡ opening_without y
 openings_same x y a =
@@ -84,16 +84,16 @@ openings_same x y a =
 
 responses_same : (u : ℕ) (x y : ResponseRequest) → ResponsesAlike u x y → response_without (eqb x.member u) x ≡ response_without (eqb y.member u) y
 responses_same u x y a =
-    let own = eqb x.member u in
+    let mine = eqb x.member u in
     rw
-    (same_kept (another_and own price_ok) (pos 0) x.price y.price (of_another own price_inside price_ok x.price y.price price_is a.price), same_kept (another_and own size_ok) 1 x.size y.size (of_another own size_inside size_ok x.size y.size size_is a.size), same_kept (another_and own class_inside) Customer x.class y.class a.class, a.time, a.member, a.own, a.side, a.kind)
+    (same_kept (another_and mine price_ok) (pos 0) x.price y.price (of_another mine price_inside price_ok x.price y.price price_is a.price), same_kept (another_and mine size_ok) 1 x.size y.size (of_another mine size_inside size_ok x.size y.size size_is a.size), same_kept (another_and mine class_inside) Customer x.class y.class a.class, a.time, a.member, a.own_number, a.side, a.kind)
     refl
 
 changes_same : (u : ℕ) (x y : ChangeRequest) → ChangesAlike u x y → change_without (eqb x.member u) x ≡ change_without (eqb y.member u) y
 changes_same u x y a =
-    let own = eqb x.member u in
+    let mine = eqb x.member u in
     rw
-    (same_kept (another_and own price_ok) (pos 0) x.price y.price (of_another own price_inside price_ok x.price y.price price_is a.price), same_kept (another_and own size_ok) 1 x.size y.size (of_another own size_inside size_ok x.size y.size size_is a.size), a.time, a.member, a.own)
+    (same_kept (another_and mine price_ok) (pos 0) x.price y.price (of_another mine price_inside price_ok x.price y.price price_is a.price), same_kept (another_and mine size_ok) 1 x.size y.size (of_another mine size_inside size_ok x.size y.size size_is a.size), a.time, a.member, a.own_number)
     refl
 
 pub same_without_hidden : {T : Type 0} (u : ℕ) (c d : Call T) → Alike u c d → without_hidden u c ≡ without_hidden u d

@@ -29,7 +29,7 @@ responding_member x h = member_of_checks _ (not (price_ok x.price)) (not (size_o
 pub changing_member : (x : ChangeRequest) → change_checks x ≡ None → 1 ≤ x.member
 changing_member x h = member_of_checks _ (not (price_ok x.price)) (not (size_ok x.size)) x.member _ h
 
--- What stands in place of a hidden term is inside its limits as the term is, and a term outside its limits is not hidden.
+-- What stands for a hidden term is inside its limits as the term is, and a term outside its limits is not hidden.
 limits_by : {X : Type 0} (in_limits : X → Bool) (blank x : X) (b : Bool) → in_limits blank ≡ true → in_limits x ≡ b → in_limits (cond b blank x) ≡ b
 limits_by in_limits blank x true h e = h
 limits_by in_limits blank x false h e = e
@@ -44,16 +44,16 @@ module _ (F : Type 0) where
       ap (λ b. refuse (ltb 4000000000000 x.time) 1 (refuse (not (price_ok x.order.limit)) 2 (refuse (not b) 2 (refuse (not (size_ok x.order.size)) 3 (refuse (not (from_to 1 16 x.member)) 4 None)))))
       (sym (limits_same price_ok (pos 0) x.order.guarantee.price refl))
 
-  terms_checks_same : (time member own : Bool) (price : ℤ) (size : ℕ)
-      → let checks : Bool → Bool → Option ℕ = λ a b. refuse time 1 (refuse (not a) 2 (refuse (not b) 3 (refuse member 4 (refuse own 5 None)))) in
+  terms_checks_same : (time member own_number : Bool) (price : ℤ) (size : ℕ)
+      → let checks : Bool → Bool → Option ℕ = λ a b. refuse time 1 (refuse (not a) 2 (refuse (not b) 3 (refuse member 4 (refuse own_number 5 None)))) in
       checks (price_ok price) (size_ok size) ≡ checks (price_ok (kept_unless price_ok (pos 0) price)) (size_ok (kept_unless size_ok 1 size))
-  terms_checks_same time member own price size =
-      let checks : Bool → Bool → Option ℕ = λ a b. refuse time 1 (refuse (not a) 2 (refuse (not b) 3 (refuse member 4 (refuse own 5 None)))) in
+  terms_checks_same time member own_number price size =
+      let checks : Bool → Bool → Option ℕ = λ a b. refuse time 1 (refuse (not a) 2 (refuse (not b) 3 (refuse member 4 (refuse own_number 5 None)))) in
       ap (λ a. checks a (size_ok size)) (sym (limits_same price_ok (pos 0) price refl))
       ∙ ap (λ b. checks (price_ok (kept_unless price_ok (pos 0) price)) b) (sym (limits_same size_ok 1 size refl))
 
   pub respond_checks_same : (x : ResponseRequest) → respond_checks x ≡ respond_checks (response_without false x)
-  respond_checks_same x = terms_checks_same (ltb 4000000000000 x.time) (not (from_to 1 16 x.member)) (not (from_to 1 4 x.own)) x.price x.size
+  respond_checks_same x = terms_checks_same (ltb 4000000000000 x.time) (not (from_to 1 16 x.member)) (not (from_to 1 4 x.own_number)) x.price x.size
 
   pub change_checks_same : (x : ChangeRequest) → change_checks x ≡ change_checks (change_without false x)
-  change_checks_same x = terms_checks_same (ltb 4000000000000 x.time) (not (from_to 1 16 x.member)) (not (from_to 1 4 x.own)) x.price x.size
+  change_checks_same x = terms_checks_same (ltb 4000000000000 x.time) (not (from_to 1 16 x.member)) (not (from_to 1 4 x.own_number)) x.price x.size

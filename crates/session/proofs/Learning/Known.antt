@@ -8,8 +8,8 @@ use Rattle.std.specs.Int.{int_max}
 use Rattle.std.specs.Option.{option_map}
 use Rattle.market.specs.declared.quote.Quote.{Quote}
 use Rattle.market.specs.declared.side.Side.{Side}
-use Rattle.market.specs.Range.{RangePrices, permitted, turned_quote}
-use Rattle.market.specs.Side.{turned}
+use Rattle.market.specs.Range.{RangePrices, permitted_range, turned_quote}
+use Rattle.market.specs.Side.{turned_price}
 use Rattle.allocation.specs.declared.order.PairedOrder.{PairedOrder}
 use Rattle.allocation.specs.declared.response.Response.{Response}
 use Rattle.room.specs.declared.answers.AuctionView.{AuctionView}
@@ -29,18 +29,18 @@ use Rattle.room.specs.Ticks.{floor_now}
 use Rattle.room.specs.World.{World}
 use Rattle.session.specs.declared.call.Call.{Call}
 use Rattle.session.specs.declared.call.Call.TheVariants.{Open, Respond, Change, Withdraw, Tick, Halt, Resume, Clock, Look, Collect}
-use Rattle.session.specs.Runs.{Answer, Stored, Looked, answered}
+use Rattle.session.specs.Runs.{Answer, Stored, Looked, answer_of_result}
 
 -- A response without its arrival number, which would tell of the others' responses and changes.
 abbrev pub unnumbered : Response → Response
-unnumbered x = record { member = x.member; own = x.own; kind = x.kind; class = x.class; size = x.size; price = x.price; arrival = 0 }
+unnumbered x = record x { arrival = 0 }
 
 -- The responses of a member.
 abbrev pub own_rows : ℕ → List Response → List Response
 own_rows u [] = []
 own_rows u (x ∷ xs) = cond (eqb x.member u) (unnumbered x ∷ own_rows u xs) (own_rows u xs)
 
--- What stands at a place of a list, from 0.
+-- What stands at an index of a list, from 0.
 abbrev pub entry : ℕ → List ℕ → Option ℕ
 entry i [] = None
 entry zero (n ∷ ns) = Some n
@@ -127,16 +127,7 @@ without_number_known n (e ∷ es) = cond (eqb e n) es (e ∷ without_number_know
 
 -- The open auction at the floor that a tick shows.
 abbrev pub refloored : Quote → KnownAuction → KnownAuction
-refloored q a = record {
-  number = a.number;
-  deadline = a.deadline;
-  side = a.side;
-  size = a.size;
-  floor = floor_now (turned_quote a.side q).floor a.floor;
-  initiating = a.initiating;
-  mine = a.mine;
-  count = a.count;
-}
+refloored q a = record a { floor = floor_now (turned_quote a.side q).floor a.floor }
 
 -- A new auction, by what is known of its order.
 abbrev pub new_known : ℕ → ℕ → ℕ → PairedOrder → RangePrices → KnownAuction
@@ -153,55 +144,33 @@ new_known u number deadline o r = record {
 
 -- A member's own price and size as stored.
 abbrev pub price_known : KnownAuction → ℤ → ℤ
-price_known a price = int_max a.floor (turned a.side price)
+price_known a price = int_max a.floor (turned_price a.side price)
 
 abbrev pub size_known : KnownAuction → ℕ → ℕ
 size_known a size = min size a.size
 
 abbrev pub terms_known : KnownAuction → ℤ → ℕ → StoredTerms
-terms_known a price size = record { price = turned a.side price; size = size }
+terms_known a price size = record { price = turned_price a.side price; size = size }
 
 -- After an accepted response or change of the member, these are its responses, and it counts.
 abbrev pub counted_known : KnownAuction → List Response → KnownAuction
-counted_known a xs = record {
-  number = a.number;
-  deadline = a.deadline;
-  side = a.side;
-  size = a.size;
-  floor = a.floor;
-  initiating = a.initiating;
-  mine = xs;
-  count = option_map (λ n. n + 1) a.count;
-}
-
--- After a withdrawal these are its responses.
-abbrev pub remaining_known : KnownAuction → List Response → KnownAuction
-remaining_known a xs = record {
-  number = a.number;
-  deadline = a.deadline;
-  side = a.side;
-  size = a.size;
-  floor = a.floor;
-  initiating = a.initiating;
-  mine = xs;
-  count = a.count;
-}
+counted_known a xs = record a { mine = xs; count = option_map (λ n. n + 1) a.count }
 
 abbrev pub row_known : KnownAuction → ResponseRequest → Response
 row_known a x =
-    record { member = x.member; own = x.own; kind = x.kind; class = x.class; size = size_known a x.size; price = price_known a x.price; arrival = 0 }
+    record { member = x.member; own_number = x.own_number; kind = x.kind; class = x.class; size = size_known a x.size; price = price_known a x.price; arrival = 0 }
 
 abbrev pub plain_below_known : KnownAuction → ResponseRequest → Bool
-plain_below_known a x = cond (is_plain x.kind) (lt_z (turned a.side x.price) a.floor) false
+plain_below_known a x = cond (is_plain x.kind) (lt_z (turned_price a.side x.price) a.floor) false
 
 abbrev pub with_response_known : KnownAuction → ResponseRequest → KnownAuction
 with_response_known a x = counted_known a (a.mine ++ row_known a x ∷ [])
 
 abbrev pub with_change_known : KnownAuction → ChangeRequest → KnownAuction
-with_change_known a x = counted_known a (own_changed x.member x.own (size_known a x.size) (price_known a x.price) 0 a.mine)
+with_change_known a x = counted_known a (own_changed x.member x.own_number (size_known a x.size) (price_known a x.price) 0 a.mine)
 
 abbrev pub with_withdrawal_known : KnownAuction → WithdrawRequest → KnownAuction
-with_withdrawal_known a x = remaining_known a (without_own x.member x.own a.mine)
+with_withdrawal_known a x = record a { mine = without_own x.member x.own_number a.mine }
 
 -- The refusals of a member's own calls, by what it knows.
 abbrev pub open_now_known : Option KnownAuction → Result KnownAuction ℕ
@@ -209,7 +178,7 @@ open_now_known None = Err 21
 open_now_known (Some a) = Ok a
 
 abbrev pub above_known : KnownAuction → ℤ → Option ℕ → Option ℕ
-above_known a price = refuse (lt_z a.initiating (turned a.side price)) 23
+above_known a price = refuse (lt_z a.initiating (turned_price a.side price)) 23
 
 abbrev pub used_known : KnownAuction → Option ℕ → Option ℕ
 used_known a = refuse (leb 10000 (counted a.count)) 27
@@ -217,18 +186,18 @@ used_known a = refuse (leb 10000 (counted a.count)) 27
 abbrev pub responding_to_known : Option KnownAuction → ResponseRequest → Result KnownAuction ℕ
 responding_to_known current x =
     and_then (open_now_known current)
-    (λ a. unless (refuse (same_side x.side a.side) 22 (above_known a x.price (refuse (is_some (own_response x.member x.own a.mine)) 24 (used_known a None)))) (Ok a))
+    (λ a. unless (refuse (same_side x.side a.side) 22 (above_known a x.price (refuse (is_some (own_response x.member x.own_number a.mine)) 24 (used_known a None)))) (Ok a))
 
 abbrev pub changing_in_known : Option KnownAuction → ChangeRequest → Result KnownAuction ℕ
 changing_in_known current x =
     and_then (open_now_known current)
-    (λ a. and_then (standing_now (own_response x.member x.own a.mine))
+    (λ a. and_then (standing_now (own_response x.member x.own_number a.mine))
     (λ y. unless (plain_checked y (above_known a x.price (used_known a None))) (Ok a)))
 
 abbrev pub withdrawing_from_known : Option KnownAuction → WithdrawRequest → Result (KnownAuction × Response) ℕ
 withdrawing_from_known current x =
     and_then (open_now_known current)
-    (λ a. and_then (standing_now (own_response x.member x.own a.mine))
+    (λ a. and_then (standing_now (own_response x.member x.own_number a.mine))
     (λ y. unless (plain_checked y None) (Ok (a, y))))
 
 -- The number of the auction that a claim collects.
@@ -243,27 +212,27 @@ collectable_known k claim rows =
     (waiting_known (numbered_known claim.auction k.waiting)))
 
 abbrev pub view_known : KnownAuction → AuctionView
-view_known a = record { number = a.number; side = a.side; size = a.size; initiating = turned a.side a.initiating }
+view_known a = record { number = a.number; side = a.side; size = a.size; initiating = turned_price a.side a.initiating }
 
 module _ {P Q : Type 0} where
   abbrev pub at_time_known : ℕ → Known P Q → Known P Q
-  at_time_known t k = record { number = k.number; time = t; halted = k.halted; position = k.position; source = k.source; auction = k.auction; waiting = k.waiting; opened = k.opened }
+  at_time_known t k = record k { time = t }
 
   abbrev pub at_position_known : P → Known P Q → Known P Q
-  at_position_known p k = record { number = k.number; time = k.time; halted = k.halted; position = p; source = k.source; auction = k.auction; waiting = k.waiting; opened = k.opened }
+  at_position_known p k = record k { position = p }
 
   abbrev pub with_halted_known : Bool → Known P Q → Known P Q
-  with_halted_known b k = record { number = k.number; time = k.time; halted = b; position = k.position; source = k.source; auction = k.auction; waiting = k.waiting; opened = k.opened }
+  with_halted_known b k = record k { halted = b }
 
   abbrev pub with_auction_known : Option KnownAuction → Known P Q → Known P Q
-  with_auction_known a k = record { number = k.number; time = k.time; halted = k.halted; position = k.position; source = k.source; auction = a; waiting = k.waiting; opened = k.opened }
+  with_auction_known a k = record k { auction = a }
 
   abbrev pub with_waiting_known : List ℕ → Known P Q → Known P Q
-  with_waiting_known ns k = record { number = k.number; time = k.time; halted = k.halted; position = k.position; source = k.source; auction = k.auction; waiting = ns; opened = k.opened }
+  with_waiting_known ns k = record k { waiting = ns }
 
   -- The open auction, if there is one, ends.
   abbrev pub ended_known : Known P Q → Known P Q
-  ended_known k = record { number = k.number; time = k.time; halted = k.halted; position = k.position; source = k.source; auction = None; waiting = closed_known k.auction k.waiting; opened = k.opened }
+  ended_known k = record k { auction = None; waiting = closed_known k.auction k.waiting }
 
   -- It ends where that is said.
   abbrev pub settled : Bool → Known P Q → Known P Q
@@ -309,16 +278,12 @@ module _ {P Q : Type 0} where
 
     -- All of an answer is shown.
     abbrev pub shown_whole : Known P Q × Result StoredTerms (RefusalTold F) → Known P Q × Option (Answer F)
-    shown_whole y = (y.0, Some (answered Stored y.1))
+    shown_whole y = (y.0, Some (answer_of_result Stored y.1))
 
 module _ {P T F Q : Type 0} (w : World P T F Q) (u : ℕ) where
   -- An opening that was accepted. (One that has no range was not.)
   abbrev pub opened_known : Result RangePrices ℕ → Known P Q → PairedOrder → Known P Q
-  opened_known (Ok r) k o = record {
-    number = k.number;
-    time = k.time;
-    halted = k.halted;
-    position = k.position;
+  opened_known (Ok r) k o = record k {
     source = w.source.next k.source;
     auction = Some (new_known u (k.opened + 1) (k.time + w.source.draws k.source) o r);
     waiting = closed_known k.auction k.waiting;
@@ -327,7 +292,7 @@ module _ {P T F Q : Type 0} (w : World P T F Q) (u : ℕ) where
   opened_known (Err e) k o = k
 
   abbrev pub opening_known : Bool → Known P Q → PairedOrder → Known P Q
-  opening_known opens k o = cond opens (opened_known (permitted o.side o.limit (w.market.shows k.position)) k o) k
+  opening_known opens k o = cond opens (opened_known (permitted_range o.side o.limit (w.market.shows k.position)) k o) k
 
   -- A tick, where it is said whether it ends the auction.
   abbrev pub ticking_known_by : Result (Unit {0}) F → Bool → Known P Q → T → Known P Q

@@ -1,4 +1,4 @@
--- The member sees the same in two runs: at every place it knows the same of both rooms, since what it knows goes on by
+-- The member sees the same in two runs: at every call it knows the same of both rooms, since what it knows goes on by
 -- what is the same in both.
 use Rattle.std.proofs.Common.{◌≡◌, ℕ, List, [], ◌∷◌, map, Option, sym, refl, ap, ◌∙◌}
 use Rattle.room.specs.State.{RoomState, new_room}

@@ -1,4 +1,4 @@
--- The member sees the same in two sessions: at every place it knows the same of both rooms, and the same claims are held,
+-- The member sees the same in two sessions: at every call it knows the same of both rooms, and the same claims are held,
 -- since both go on by what is the same in both.
 use Rattle.std.proofs.Common.{◌≡◌, ℕ, Bool, true, false, cond, List, [], ◌∷◌, map, is_some, Some, None, Option, sym, refl, ap, ◌∙◌}
 use Rattle.room.specs.declared.answers.ClaimNumbers.{ClaimNumbers}

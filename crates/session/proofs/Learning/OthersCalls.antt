@@ -4,7 +4,7 @@ use Rattle.std.proofs.Common.{◌≡◌, ℕ, ◌+◌, ◌≤◌, Bool, true, fa
 use Rattle.std.proofs.lemmas.Bool.{cond-true, cond-false}
 use Rattle.std.specs.Option.{option_map}
 use Rattle.market.specs.declared.quote.Quote.{Quote}
-use Rattle.market.specs.Range.{RangePrices, permitted, turned_quote}
+use Rattle.market.specs.Range.{RangePrices, permitted_range, turned_quote}
 use Rattle.allocation.specs.declared.order.PairedOrder.{PairedOrder}
 use Rattle.allocation.specs.declared.response.Response.{Response}
 use Rattle.room.specs.declared.answers.ClaimNumbers.{ClaimNumbers}
@@ -14,15 +14,15 @@ use Rattle.room.specs.declared.requests.ResponseRequest.{ResponseRequest}
 use Rattle.room.specs.declared.requests.WithdrawRequest.{WithdrawRequest}
 use Rattle.room.specs.Checks.{collect_checks}
 use Rattle.room.specs.Collecting.{CollectionTold, waiting_now, collect_call}
-use Rattle.room.specs.Openings.{room_refusal, guarantee_refusal, new_auction, opened_with, opening}
+use Rattle.room.specs.Openings.{room_refusal, guarantee_refusal, new_auction, after_opening, opening}
 use Rattle.room.specs.Refusals.{RefusalTold, refuse, unless, and_then, outcome}
 use Rattle.allocation.specs.Table.{own_response}
-use Rattle.room.specs.Responses.{as_stored, with_response, with_change, with_withdrawal, plain_below_floor, responded, responding_to, responding, changing_in, changing, withdrawing_from, withdrawing, standing_now, plain_checked, above_checked, used_checked, side_checked, in_use_checked, stored_size, stored_price}
-use Rattle.room.specs.State.{OpenValues, EndedValues, RoomState, is_number, numbered, without_number, at_position, with_current, with_waiting, ended}
-use Rattle.room.specs.Ticks.{tick_cause, ticked_for, ticked, at_floor, floor_now, ticking_by, ticking}
+use Rattle.room.specs.Responses.{as_stored, with_response, with_change, with_withdrawal, plain_below_floor, after_response, responding_to, responding, changing_in, changing, withdrawing_from, withdrawing, standing_now, plain_checked, above_checked, used_checked, side_checked, in_use_checked, stored_size, stored_price}
+use Rattle.room.specs.State.{OpenValues, EndedValues, RoomState, is_number, waiting_auction, without_number, at_position, with_current, with_waiting, after_end}
+use Rattle.room.specs.Ticks.{tick_cause, after_tick_cause, after_shown, at_floor, floor_now, ticking_by, ticking}
 use Rattle.room.specs.World.{World}
 use Rattle.session.specs.History.{opened_number}
-use Rattle.session.specs.Runs.{Opened, answered}
+use Rattle.session.specs.Runs.{Opened, answer_of_result}
 use Rattle.session.proofs.Learning.Hidden.{order_without}
 use Rattle.session.proofs.Learning.Known.{Known, known, known_auction, numbers, ended_known, settled, with_auction_known, at_position_known, with_waiting_known, refloored, opened_known, opening_known, ticking_known_by, ticking_known, is_number_known, numbered_known, waiting_known, collectable_known, collected_by}
 use Rattle.session.proofs.Learning.OwnRows.{others_push, others_changed, others_withdrawn, own_count_other, numbered_follows, without_number_follows}
@@ -39,7 +39,7 @@ module _ {P Q : Type 0} (F : Type 0) (u : ℕ) where
         (others_push u a.values.stood (as_stored a x) other) (own_count_other u x.member a.used member other))
 
     stored_or_ended : (b : Bool) (a : OpenValues) → s.current ≡ Some a
-        → let t = with_current (with_response a x) s in let z = cond b (ended (byte "E") t) t in
+        → let t = with_current (with_response a x) s in let z = cond b (after_end (byte "E") t) t in
         known u z ≡ settled (ends_in (Some a) z.current) (known u s)
     stored_or_ended true a e =
         ended_follows u (byte "E") (with_current (with_response a x) s)
@@ -50,16 +50,16 @@ module _ {P Q : Type 0} (F : Type 0) (u : ℕ) where
         ∙ sym (cond-false (ends_in (Some a) (Some (with_response a x))) (ended_known (known u s)) (known u s) (kept_ends_not a (with_response a x) refl))
 
     taken_or_refused : (r : Option ℕ) (a : OpenValues) (tells : OpenValues → StoredTerms) → s.current ≡ Some a
-        → let z = (outcome {F = F} (unless r (Ok a)) s (λ b. responded s b x) tells).0 in known u z ≡ settled (ends_in (Some a) z.current) (known u s)
+        → let z = (outcome {F = F} (unless r (Ok a)) s (λ b. after_response s b x) tells).0 in known u z ≡ settled (ends_in (Some a) z.current) (known u s)
     taken_or_refused None a tells e = stored_or_ended (plain_below_floor a x) a e
     taken_or_refused (Some f) a tells e =
         sym (cond-false (ends_in (Some a) s.current) (ended_known (known u s)) (known u s) (ap (ends_in (Some a)) e ∙ kept_ends_not a a refl))
 
     responding_by : (o : Option OpenValues) (tells : OpenValues → StoredTerms) → s.current ≡ o
-        → let z = (outcome {F = F} (responding_to o x) s (λ b. responded s b x) tells).0 in known u z ≡ settled (ends_in o z.current) (known u s)
+        → let z = (outcome {F = F} (responding_to o x) s (λ b. after_response s b x) tells).0 in known u z ≡ settled (ends_in o z.current) (known u s)
     responding_by None tells e = refl
     responding_by (Some a) tells e =
-        taken_or_refused (side_checked a x.side (above_checked a x.price (in_use_checked a x.member x.own (used_checked a x.member None)))) a tells e
+        taken_or_refused (side_checked a x.side (above_checked a x.price (in_use_checked a x.member x.own_number (used_checked a x.member None)))) a tells e
 
     pub others_responding : let z = (responding {F = F} s x).0 in known u z ≡ settled (ends_in s.current z.current) (known u s)
     others_responding = responding_by s.current _ refl
@@ -82,11 +82,11 @@ module _ {P Q : Type 0} (F : Type 0) (u : ℕ) where
         → known u (outcome {F = F} (changing_in o x) s (λ a. with_current (with_change a x) s) tells).0 ≡ known u s
     changing_by None tells e = refl
     changing_by (Some a) tells e =
-        standing_unknown s (own_response x.member x.own a.values.stood) (λ y. plain_checked y (above_checked a x.price (used_checked a x.member None))) (λ y. a)
+        standing_unknown s (own_response x.member x.own_number a.values.stood) (λ y. plain_checked y (above_checked a x.price (used_checked a x.member None))) (λ y. a)
         (λ a. with_current (with_change a x) s) tells
         (λ y. with_current_same u s a (with_change a x) e
         (auction_rows u a (with_change a x).values.stood (with_change a x).arrivals (with_change a x).used _ _
-        (others_changed u x.member x.own (stored_size a x.size) (stored_price a x.price) (a.arrivals + 1) a.values.stood other)
+        (others_changed u x.member x.own_number (stored_size a x.size) (stored_price a x.price) (a.arrivals + 1) a.values.stood other)
         (own_count_other u x.member a.used member other)))
 
     pub others_changing : known u (changing {F = F} s x).0 ≡ known u s
@@ -98,24 +98,24 @@ module _ {P Q : Type 0} (F : Type 0) (u : ℕ) where
         → known u (outcome {F = F} (withdrawing_from o x) s (λ f. with_current (with_withdrawal f.0 x) s) tells).0 ≡ known u s
     withdrawing_by None tells e = refl
     withdrawing_by (Some a) tells e =
-        standing_unknown s (own_response x.member x.own a.values.stood) (λ y. plain_checked y None) (λ y. (a, y))
+        standing_unknown s (own_response x.member x.own_number a.values.stood) (λ y. plain_checked y None) (λ y. (a, y))
         (λ f. with_current (with_withdrawal f.0 x) s) tells
         (λ y. with_current_same u s a (with_withdrawal a x) e
         (auction_rows u a (with_withdrawal a x).values.stood a.arrivals a.used _ _
-        (others_withdrawn u x.member x.own a.values.stood other) refl))
+        (others_withdrawn u x.member x.own_number a.values.stood other) refl))
 
     pub others_withdrawing : known u (withdrawing {F = F} s x).0 ≡ known u s
     others_withdrawing = withdrawing_by s.current _ refl
 
 -- The answer of an opening that was accepted.
 abbrev pub opens_in : {F : Type 0} → Result ClaimNumbers (RefusalTold F) → Bool
-opens_in y = is_some (opened_number (answered Opened y))
+opens_in y = is_some (opened_number (answer_of_result Opened y))
 
 -- A tick.
 module _ {P T F Q : Type 0} (w : World P T F Q) (u : ℕ) where
   module _ (s : RoomState P Q) (p : P) where
     ticked_for_follows : (c : Option ℕ) (a : OpenValues) (q : Quote)
-        → let z = ticked_for c (turned_quote a.values.order.side q) (at_position p s) a in let j = at_position_known p (known u s) in
+        → let z = after_tick_cause c (turned_quote a.values.order.side q) (at_position p s) a in let j = at_position_known p (known u s) in
         known u z ≡ cond (ends_in (Some a) z.current) (ended_known j) (with_auction_known (Some (refloored q (known_auction u a))) j)
     ticked_for_follows (Some c) a q =
         let j = at_position_known p (known u s) in
@@ -127,7 +127,7 @@ module _ {P T F Q : Type 0} (w : World P T F Q) (u : ℕ) where
         sym (cond-false (ends_in (Some a) (Some b)) (ended_known j) (with_auction_known (Some (refloored q (known_auction u a))) j) (kept_ends_not a b refl))
 
     ticked_follows : (o : Option OpenValues) (q : Quote) → s.current ≡ o
-        → let z = ticked o q (at_position p s) in let j = at_position_known p (known u s) in
+        → let z = after_shown o q (at_position p s) in let j = at_position_known p (known u s) in
         known u z ≡ cond (ends_in o z.current) (ended_known j) (with_auction_known (option_map (refloored q) (option_map (known_auction u) o)) j)
     ticked_follows None q e = ap (λ o. with_auction_known (option_map (known_auction u) o) (at_position_known p (known u s))) e
     ticked_follows (Some a) q e = ticked_for_follows (tick_cause a.values (turned_quote a.values.order.side q)) a q
@@ -150,7 +150,7 @@ module _ {P T F Q : Type 0} (w : World P T F Q) (u : ℕ) where
   ticking_over t b k = over_by (w.market.answer k.position t) t b k
 
   -- An opening.
-  opened_follows : (s : RoomState P Q) (o : PairedOrder) (r : RangePrices) → known u (opened_with w s o r) ≡ opened_known w u (Ok r) (known u s) (order_without o)
+  opened_follows : (s : RoomState P Q) (o : PairedOrder) (r : RangePrices) → known u (after_opening w s o r) ≡ opened_known w u (Ok r) (known u s) (order_without o)
   opened_follows s o r =
       ap (λ ns. record {
         number = s.number;
@@ -165,13 +165,13 @@ module _ {P T F Q : Type 0} (w : World P T F Q) (u : ℕ) where
 
   module _ (s : RoomState P Q) (o : PairedOrder) (tells : RangePrices → ClaimNumbers) where
     accepted_opening : (g : Option ℕ) (r : RangePrices)
-        → let y = outcome {F = F} (unless g (Ok r)) s (opened_with w s o) tells in
+        → let y = outcome {F = F} (unless g (Ok r)) s (after_opening w s o) tells in
         known u y.0 ≡ cond (opens_in y.1) (opened_known w u (Ok r) (known u s) (order_without o)) (known u s)
     accepted_opening None r = opened_follows s o r
     accepted_opening (Some f) r = refl
 
     opening_by : (a : Option ℕ) (b : Result RangePrices ℕ) (g : RangePrices → Option ℕ)
-        → let y = outcome {F = F} (unless a (and_then b (λ r. unless (g r) (Ok r)))) s (opened_with w s o) tells in
+        → let y = outcome {F = F} (unless a (and_then b (λ r. unless (g r) (Ok r)))) s (after_opening w s o) tells in
         known u y.0 ≡ cond (opens_in y.1) (opened_known w u b (known u s) (order_without o)) (known u s)
     opening_by (Some f) b g = refl
     opening_by None (Err f) g = refl
@@ -179,7 +179,7 @@ module _ {P T F Q : Type 0} (w : World P T F Q) (u : ℕ) where
 
   pub opening_follows : (s : RoomState P Q) (o : PairedOrder) → let y = opening w s o in known u y.0 ≡ opening_known w u (opens_in y.1) (known u s) (order_without o)
   opening_follows s o =
-      opening_by s o _ (room_refusal s.halted s.waiting) (permitted o.side o.limit (w.market.shows s.position)) (guarantee_refusal o s.opened)
+      opening_by s o _ (room_refusal s.halted s.waiting) (permitted_range o.side o.limit (w.market.shows s.position)) (guarantee_refusal o s.opened)
 
 -- A collecting.
 pub is_number_follows : (u n : ℕ) (o : Option OpenValues) → is_number_known n (option_map (known_auction u) o) ≡ is_number n o
@@ -199,6 +199,6 @@ module _ {P T F Q : Type 0} (w : World P T F Q) (u : ℕ) (s : RoomState P Q) (c
   collecting_follows rows =
       let a : Option ℕ = collect_checks rows in
       let b : Bool → Option ℕ = λ i. refuse (not (eqb c.room s.number)) 42 (refuse i 41 None) in
-      collected_follows a (b (is_number c.auction s.current)) (numbered c.auction s.waiting) _
+      collected_follows a (b (is_number c.auction s.current)) (waiting_auction c.auction s.waiting) _
       ∙ ap (λ o. collected_by (unless a (unless (b (is_number c.auction s.current)) (waiting_known o))) c.auction (known u s)) (sym (numbered_follows c.auction s.waiting))
       ∙ ap (λ i. collected_by (unless a (unless (b i) (waiting_known (numbered_known c.auction (numbers s.waiting))))) c.auction (known u s)) (sym (is_number_follows u c.auction s.current))

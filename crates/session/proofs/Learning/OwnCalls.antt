@@ -9,10 +9,10 @@ use Rattle.room.specs.declared.requests.ChangeRequest.{ChangeRequest}
 use Rattle.room.specs.declared.requests.ResponseRequest.{ResponseRequest}
 use Rattle.room.specs.declared.requests.WithdrawRequest.{WithdrawRequest}
 use Rattle.room.specs.Checks.{respond_checks, change_checks, withdraw_checks}
-use Rattle.room.specs.Clock.{clocked, timed}
+use Rattle.room.specs.Clock.{after_clock, timed_call}
 use Rattle.room.specs.Refusals.{RefusalTold, refuse, unless, and_then, outcome}
 use Rattle.allocation.specs.Table.{own_response}
-use Rattle.room.specs.Responses.{same_side, as_stored, with_response, with_change, with_withdrawal, plain_below_floor, responded, responding_to, responding, respond_call, changing_in, changing, change_call, withdrawing_from, withdrawing, withdraw_call, standing_now, plain_checked, stored_size, stored_price, terms_told}
+use Rattle.room.specs.Responses.{same_side, as_stored, with_response, with_change, with_withdrawal, plain_below_floor, after_response, responding_to, responding, respond_call, changing_in, changing, change_call, withdrawing_from, withdrawing, withdraw_call, standing_now, plain_checked, stored_size, stored_price, terms_told}
 use Rattle.room.specs.State.{OpenValues, RoomState, with_current, used_by}
 use Rattle.session.proofs.Learning.Known.{Known, KnownAuction, known, known_auction, unnumbered, own_rows, own_count, counted, with_auction_known, settled, with_response_known, with_change_known, with_withdrawal_known, above_known, responding_to_known, changing_in_known, withdrawing_from_known, responded_known, responding_known, changing_known, withdrawing_known, timed_known, terms_known, price_known, size_known}
 use Rattle.session.proofs.Learning.OwnRows.{own_push, own_response_follows, own_changed_follows, without_own_follows, own_count_more, own_count_read}
@@ -54,12 +54,12 @@ with_change_follows : (a : OpenValues) (x : ChangeRequest) → 1 ≤ x.member
 with_change_follows a x h =
     let u = x.member in
     auction_rows u a (with_change a x).values.stood (with_change a x).arrivals (with_change a x).used _ _
-    (own_changed_follows u x.own (stored_size a x.size) (stored_price a x.price) (a.arrivals + 1) a.values.stood) (own_count_more u a.used h)
+    (own_changed_follows u x.own_number (stored_size a x.size) (stored_price a x.price) (a.arrivals + 1) a.values.stood) (own_count_more u a.used h)
 
 with_withdrawal_follows : (a : OpenValues) (x : WithdrawRequest)
     → known_auction x.member (with_withdrawal a x) ≡ with_withdrawal_known (known_auction x.member a) x
 with_withdrawal_follows a x =
-    auction_rows x.member a (with_withdrawal a x).values.stood a.arrivals a.used _ _ (without_own_follows x.member x.own a.values.stood) refl
+    auction_rows x.member a (with_withdrawal a x).values.stood a.arrivals a.used _ _ (without_own_follows x.member x.own_number a.values.stood) refl
 
 -- The refusals of a member's own calls are decided by what it knows.
 responding_to_follows : (o : Option OpenValues) (x : ResponseRequest) → 1 ≤ x.member
@@ -70,11 +70,11 @@ responding_to_follows (Some a) x h =
     let k = known_auction u a in
     let tests : Bool → ℕ → Option ℕ =
     λ b n. refuse (same_side x.side k.side) 22 (above_known k x.price (refuse b 24 (refuse (leb 10000 n) 27 None))) in
-    let found : is_some (own_response u x.own (own_rows u a.values.stood)) ≡ is_some (own_response u x.own a.values.stood) =
-    ap is_some (own_response_follows u x.own a.values.stood) ∙ some_through unnumbered (own_response u x.own a.values.stood) in
+    let found : is_some (own_response u x.own_number (own_rows u a.values.stood)) ≡ is_some (own_response u x.own_number a.values.stood) =
+    ap is_some (own_response_follows u x.own_number a.values.stood) ∙ some_through unnumbered (own_response u x.own_number a.values.stood) in
     ap (λ b. unless (tests b (counted (own_count u a.used))) (Ok k)) found
-    ∙ ap (λ n. unless (tests (is_some (own_response u x.own a.values.stood)) n) (Ok k)) (own_count_read u a.used h)
-    ∙ unless_through (known_auction u) (tests (is_some (own_response u x.own a.values.stood)) (used_by u a.used)) a
+    ∙ ap (λ n. unless (tests (is_some (own_response u x.own_number a.values.stood)) n) (Ok k)) (own_count_read u a.used h)
+    ∙ unless_through (known_auction u) (tests (is_some (own_response u x.own_number a.values.stood)) (used_by u a.used)) a
 
 changing_in_follows : (o : Option OpenValues) (x : ChangeRequest) → 1 ≤ x.member
     → changing_in_known (option_map (known_auction x.member) o) x ≡ through (known_auction x.member) (changing_in o x)
@@ -83,9 +83,9 @@ changing_in_follows (Some a) x h =
     let u = x.member in
     let k = known_auction u a in
     let tests : ℕ → Response → Option ℕ = λ n y. plain_checked y (above_known k x.price (refuse (leb 10000 n) 27 None)) in
-    ap (λ n. and_then (standing_now (own_response u x.own (own_rows u a.values.stood))) (λ y. unless (tests n y) (Ok k))) (own_count_read u a.used h)
-    ∙ ap (λ o. and_then (standing_now o) (λ y. unless (tests (used_by u a.used) y) (Ok k))) (own_response_follows u x.own a.values.stood)
-    ∙ standing_through (known_auction u) (own_response u x.own a.values.stood) (tests (used_by u a.used)) (λ y. a) (λ y. k) (λ y. refl) (λ y. refl)
+    ap (λ n. and_then (standing_now (own_response u x.own_number (own_rows u a.values.stood))) (λ y. unless (tests n y) (Ok k))) (own_count_read u a.used h)
+    ∙ ap (λ o. and_then (standing_now o) (λ y. unless (tests (used_by u a.used) y) (Ok k))) (own_response_follows u x.own_number a.values.stood)
+    ∙ standing_through (known_auction u) (own_response u x.own_number a.values.stood) (tests (used_by u a.used)) (λ y. a) (λ y. k) (λ y. refl) (λ y. refl)
 
 abbrev known_both : ℕ → OpenValues × Response → KnownAuction × Response
 known_both u f = (known_auction u f.0, unnumbered f.1)
@@ -96,8 +96,8 @@ withdrawing_from_follows None x = refl
 withdrawing_from_follows (Some a) x =
     let u = x.member in
     let k = known_auction u a in
-    ap (λ o. and_then (standing_now o) (λ y. unless (plain_checked y None) (Ok (k, y)))) (own_response_follows u x.own a.values.stood)
-    ∙ standing_through (known_both u) (own_response u x.own a.values.stood) (λ y. plain_checked y None) (λ y. (a, y)) (λ y. (k, y)) (λ y. refl) (λ y. refl)
+    ap (λ o. and_then (standing_now o) (λ y. unless (plain_checked y None) (Ok (k, y)))) (own_response_follows u x.own_number a.values.stood)
+    ∙ standing_through (known_both u) (own_response u x.own_number a.values.stood) (λ y. plain_checked y None) (λ y. (a, y)) (λ y. (k, y)) (λ y. refl) (λ y. refl)
 
 module _ {P Q : Type 0} where
   -- What a member knows of the room, with the answer.
@@ -115,14 +115,14 @@ module _ {P Q : Type 0} where
   timed_follows : {Y F : Type 0} (u : ℕ) (r : Option ℕ) (s : RoomState P Q) (t : ℕ)
       (business : RoomState P Q → RoomState P Q × Result Y (RefusalTold F)) (business_known : Known P Q → Known P Q × Result Y (RefusalTold F))
       → (r ≡ None → (z : RoomState P Q) → with_answer u (business z) ≡ business_known (known u z))
-      → with_answer u (timed r s t business) ≡ timed_known r (known u s) t business_known
-  timed_follows u None s t business business_known h = h refl (clocked s t) ∙ ap business_known (clocked_follows u s t)
+      → with_answer u (timed_call r s t business) ≡ timed_known r (known u s) t business_known
+  timed_follows u None s t business business_known h = h refl (after_clock s t) ∙ ap business_known (clocked_follows u s t)
   timed_follows u (Some e) s t business business_known h = refl
 
   module _ (F : Type 0) where
     -- An own response.
     responded_follows : (s : RoomState P Q) (a : OpenValues) (x : ResponseRequest) → 1 ≤ x.member
-        → known x.member (responded s a x) ≡ responded_known (known x.member s) (known_auction x.member a) x
+        → known x.member (after_response s a x) ≡ responded_known (known x.member s) (known_auction x.member a) x
     responded_follows s a x h =
         settled_follows x.member (byte "E") (plain_below_floor a x) (with_current (with_response a x) s)
         ∙ ap (λ b. settled (plain_below_floor a x) (with_auction_known (Some b) (known x.member s))) (with_response_follows a x h)
@@ -132,7 +132,7 @@ module _ {P Q : Type 0} where
     responding_follows s x h =
         let u = x.member in
         let tells : KnownAuction → StoredTerms = λ a. terms_known a (price_known a x.price) (size_known a x.size) in
-        outcome_follows u (known_auction u) (responding_to s.current x) s (λ a. responded s a x) (λ a. responded_known (known u s) a x)
+        outcome_follows u (known_auction u) (responding_to s.current x) s (λ a. after_response s a x) (λ a. responded_known (known u s) a x)
         (λ a. terms_told a (stored_price a x.price) (stored_size a x.size)) tells
         (λ a. responded_follows s a x h) (λ a. refl)
         ∙ sym (ap (λ r. outcome r (known u s) (λ a. responded_known (known u s) a x) tells) (responding_to_follows s.current x h))

@@ -5,9 +5,9 @@ use Rattle.std.proofs.lemmas.Bool.{cond-true, cond-false}
 use Rattle.std.proofs.lemmas.Bool.Decides.{nat_tests}
 use Rattle.std.specs.Option.{option_map}
 use Rattle.allocation.specs.declared.response.Response.{Response}
-use Rattle.allocation.specs.Table.{is_of, restored, own_response, own_changed, without_own}
+use Rattle.allocation.specs.Table.{is_of, with_terms, own_response, own_changed, without_own}
 use Rattle.room.specs.Responses.{}
-use Rattle.room.specs.State.{EndedValues, numbered, without_number, used_by, one_more}
+use Rattle.room.specs.State.{EndedValues, waiting_auction, without_number, used_by, one_more}
 use Rattle.session.proofs.Choices.{cond_through}
 use Rattle.session.proofs.Learning.Known.{unnumbered, own_rows, entry, own_count, counted, numbers, numbered_known, without_number_known}
 
@@ -24,11 +24,11 @@ found_own true true x o p h = refl
 found_own true false x o p h = h
 found_own false b x o p h = h
 
-pub own_response_follows : (u own : ℕ) (xs : List Response) → own_response u own (own_rows u xs) ≡ option_map unnumbered (own_response u own xs)
-own_response_follows u own [] = refl
-own_response_follows u own (x ∷ xs) =
-    cond_through (own_response u own) (eqb x.member u) (unnumbered x ∷ own_rows u xs) (own_rows u xs)
-    ∙ found_own (eqb x.member u) (eqb x.own own) x (own_response u own xs) (own_response u own (own_rows u xs)) (own_response_follows u own xs)
+pub own_response_follows : (u own_number : ℕ) (xs : List Response) → own_response u own_number (own_rows u xs) ≡ option_map unnumbered (own_response u own_number xs)
+own_response_follows u own_number [] = refl
+own_response_follows u own_number (x ∷ xs) =
+    cond_through (own_response u own_number) (eqb x.member u) (unnumbered x ∷ own_rows u xs) (own_rows u xs)
+    ∙ found_own (eqb x.member u) (eqb x.own_number own_number) x (own_response u own_number xs) (own_response u own_number (own_rows u xs)) (own_response_follows u own_number xs)
 
 -- The member changes one of its own responses.
 changed_own : (a b : Bool) (y z : Response) (r d c : List Response) → d ≡ c
@@ -37,14 +37,14 @@ changed_own true true y z r d c h = refl
 changed_own true false y z r d c h = ap (λ l. z ∷ l) h
 changed_own false b y z r d c h = h
 
-pub own_changed_follows : (u own size : ℕ) (price : ℤ) (arrival : ℕ) (xs : List Response)
-    → own_rows u (own_changed u own size price arrival xs) ≡ own_changed u own size price 0 (own_rows u xs)
-own_changed_follows u own size price arrival [] = refl
-own_changed_follows u own size price arrival (x ∷ xs) =
-    let c = own_changed u own size price arrival xs in
-    cond_through (own_rows u) (is_of u own x) (restored size price arrival x ∷ xs) (x ∷ c)
-    ∙ changed_own (eqb x.member u) (eqb x.own own) (restored size price 0 x) (unnumbered x) (own_rows u xs) (own_rows u c) (own_changed u own size price 0 (own_rows u xs)) (own_changed_follows u own size price arrival xs)
-    ∙ sym (cond_through (own_changed u own size price 0) (eqb x.member u) (unnumbered x ∷ own_rows u xs) (own_rows u xs))
+pub own_changed_follows : (u own_number size : ℕ) (price : ℤ) (arrival : ℕ) (xs : List Response)
+    → own_rows u (own_changed u own_number size price arrival xs) ≡ own_changed u own_number size price 0 (own_rows u xs)
+own_changed_follows u own_number size price arrival [] = refl
+own_changed_follows u own_number size price arrival (x ∷ xs) =
+    let c = own_changed u own_number size price arrival xs in
+    cond_through (own_rows u) (is_of u own_number x) (with_terms size price arrival x ∷ xs) (x ∷ c)
+    ∙ changed_own (eqb x.member u) (eqb x.own_number own_number) (with_terms size price 0 x) (unnumbered x) (own_rows u xs) (own_rows u c) (own_changed u own_number size price 0 (own_rows u xs)) (own_changed_follows u own_number size price arrival xs)
+    ∙ sym (cond_through (own_changed u own_number size price 0) (eqb x.member u) (unnumbered x ∷ own_rows u xs) (own_rows u xs))
 
 -- The member withdraws one of its own responses.
 withdrawn_own : (a b : Bool) (z : Response) (r d c : List Response) → d ≡ c
@@ -53,13 +53,13 @@ withdrawn_own true true z r d c h = refl
 withdrawn_own true false z r d c h = ap (λ l. z ∷ l) h
 withdrawn_own false b z r d c h = h
 
-pub without_own_follows : (u own : ℕ) (xs : List Response) → own_rows u (without_own u own xs) ≡ without_own u own (own_rows u xs)
-without_own_follows u own [] = refl
-without_own_follows u own (x ∷ xs) =
-    let c = without_own u own xs in
-    cond_through (own_rows u) (is_of u own x) xs (x ∷ c)
-    ∙ withdrawn_own (eqb x.member u) (eqb x.own own) (unnumbered x) (own_rows u xs) (own_rows u c) (without_own u own (own_rows u xs)) (without_own_follows u own xs)
-    ∙ sym (cond_through (without_own u own) (eqb x.member u) (unnumbered x ∷ own_rows u xs) (own_rows u xs))
+pub without_own_follows : (u own_number : ℕ) (xs : List Response) → own_rows u (without_own u own_number xs) ≡ without_own u own_number (own_rows u xs)
+without_own_follows u own_number [] = refl
+without_own_follows u own_number (x ∷ xs) =
+    let c = without_own u own_number xs in
+    cond_through (own_rows u) (is_of u own_number x) xs (x ∷ c)
+    ∙ withdrawn_own (eqb x.member u) (eqb x.own_number own_number) (unnumbered x) (own_rows u xs) (own_rows u c) (without_own u own_number (own_rows u xs)) (without_own_follows u own_number xs)
+    ∙ sym (cond_through (without_own u own_number) (eqb x.member u) (unnumbered x ∷ own_rows u xs) (own_rows u xs))
 
 -- A response of the member joins its rows, and another's does not.
 pub own_push : (u : ℕ) (xs : List Response) (x : Response) → eqb x.member u ≡ true → own_rows u (xs ++ x ∷ []) ≡ own_rows u xs ++ unnumbered x ∷ []
@@ -80,14 +80,14 @@ changed_others true false y z r d g h = ap (λ l. z ∷ l) h
 changed_others false true y z r d g h = refl
 changed_others false false y z r d g h = h
 
-pub others_changed : (u m own size : ℕ) (price : ℤ) (arrival : ℕ) (xs : List Response) → eqb m u ≡ false
-    → own_rows u (own_changed m own size price arrival xs) ≡ own_rows u xs
-others_changed u m own size price arrival [] h = refl
-others_changed u m own size price arrival (x ∷ xs) h =
-    let c = own_changed m own size price arrival xs in
-    cond_through (own_rows u) (is_of m own x) (restored size price arrival x ∷ xs) (x ∷ c)
-    ∙ changed_others (eqb x.member u) (is_of m own x) (restored size price 0 x) (unnumbered x) (own_rows u xs) (own_rows u c)
-    (not_another m u x.member (eqb x.own own) h) (others_changed u m own size price arrival xs h)
+pub others_changed : (u m own_number size : ℕ) (price : ℤ) (arrival : ℕ) (xs : List Response) → eqb m u ≡ false
+    → own_rows u (own_changed m own_number size price arrival xs) ≡ own_rows u xs
+others_changed u m own_number size price arrival [] h = refl
+others_changed u m own_number size price arrival (x ∷ xs) h =
+    let c = own_changed m own_number size price arrival xs in
+    cond_through (own_rows u) (is_of m own_number x) (with_terms size price arrival x ∷ xs) (x ∷ c)
+    ∙ changed_others (eqb x.member u) (is_of m own_number x) (with_terms size price 0 x) (unnumbered x) (own_rows u xs) (own_rows u c)
+    (not_another m u x.member (eqb x.own_number own_number) h) (others_changed u m own_number size price arrival xs h)
 
 -- Another member's withdrawal leaves them too.
 withdrawn_others : (a e : Bool) (z : Response) (r d : List Response) → (a ≡ true → e ≡ false) → d ≡ r
@@ -97,15 +97,15 @@ withdrawn_others true false z r d g h = ap (λ l. z ∷ l) h
 withdrawn_others false true z r d g h = refl
 withdrawn_others false false z r d g h = h
 
-pub others_withdrawn : (u m own : ℕ) (xs : List Response) → eqb m u ≡ false → own_rows u (without_own m own xs) ≡ own_rows u xs
-others_withdrawn u m own [] h = refl
-others_withdrawn u m own (x ∷ xs) h =
-    let c = without_own m own xs in
-    cond_through (own_rows u) (is_of m own x) xs (x ∷ c)
-    ∙ withdrawn_others (eqb x.member u) (is_of m own x) (unnumbered x) (own_rows u xs) (own_rows u c)
-    (not_another m u x.member (eqb x.own own) h) (others_withdrawn u m own xs h)
+pub others_withdrawn : (u m own_number : ℕ) (xs : List Response) → eqb m u ≡ false → own_rows u (without_own m own_number xs) ≡ own_rows u xs
+others_withdrawn u m own_number [] h = refl
+others_withdrawn u m own_number (x ∷ xs) h =
+    let c = without_own m own_number xs in
+    cond_through (own_rows u) (is_of m own_number x) xs (x ∷ c)
+    ∙ withdrawn_others (eqb x.member u) (is_of m own_number x) (unnumbered x) (own_rows u xs) (own_rows u c)
+    (not_another m u x.member (eqb x.own_number own_number) h) (others_withdrawn u m own_number xs h)
 
--- One more at a place of the counts, and what stands at the others.
+-- One more at an index of the counts, and what stands at the others.
 entry_more : (i : ℕ) (used : List ℕ) → entry i (set used i (get_or used i 0 + 1)) ≡ option_map (λ n. n + 1) (entry i used)
 entry_more i [] = refl
 entry_more zero (n ∷ ns) = refl
@@ -140,11 +140,11 @@ own_count_read zero used h = absurd (omega arith)
 own_count_read (suc i) used h = entry_read i used ∙ sym (ap (λ j. get_or used j 0) (one_less i))
 
 -- The numbers of the auctions that wait.
-pub numbered_follows : (n : ℕ) (es : List EndedValues) → numbered_known n (numbers es) ≡ option_map (λ (e : EndedValues). e.number) (numbered n es)
+pub numbered_follows : (n : ℕ) (es : List EndedValues) → numbered_known n (numbers es) ≡ option_map (λ (e : EndedValues). e.number) (waiting_auction n es)
 numbered_follows n [] = refl
 numbered_follows n (e ∷ es) =
     ap (λ o. cond (eqb e.number n) (Some e.number) o) (numbered_follows n es)
-    ∙ sym (cond_through (option_map (λ (e : EndedValues). e.number)) (eqb e.number n) (Some e) (numbered n es))
+    ∙ sym (cond_through (option_map (λ (e : EndedValues). e.number)) (eqb e.number n) (Some e) (waiting_auction n es))
 
 pub without_number_follows : (n : ℕ) (es : List EndedValues) → numbers (without_number n es) ≡ without_number_known n (numbers es)
 without_number_follows n [] = refl

@@ -10,7 +10,7 @@ use Rattle.room.specs.declared.requests.OpeningRequest.{OpeningRequest}
 use Rattle.room.specs.declared.requests.ResponseRequest.{ResponseRequest}
 use Rattle.room.specs.declared.requests.WithdrawRequest.{WithdrawRequest}
 use Rattle.room.specs.Checks.{open_checks, respond_checks, change_checks, withdraw_checks, time_checks}
-use Rattle.room.specs.Clock.{clocked, timed}
+use Rattle.room.specs.Clock.{after_clock, timed_call}
 use Rattle.room.specs.Looks.{auction_view, look_call}
 use Rattle.room.specs.Openings.{opening, open_call}
 use Rattle.room.specs.Responses.{responding, respond_call, changing, change_call, withdrawing, withdraw_call}
@@ -20,7 +20,7 @@ use Rattle.room.specs.World.{World}
 use Rattle.session.specs.declared.call.Call.{Call}
 use Rattle.session.specs.declared.call.Call.TheVariants.{Open, Respond, Change, Withdraw, Tick, Halt, Resume, Clock, Look, Collect}
 use Rattle.session.specs.Learning.{seen_by, opens_here, ends_here}
-use Rattle.session.specs.Runs.{Answer, Stored, Looked, answered, step, moment}
+use Rattle.session.specs.Runs.{Answer, Stored, Looked, answer_of_result, step, moment}
 use Rattle.session.proofs.Learning.Hidden.{opening_without, response_without, change_without, without_hidden}
 use Rattle.session.proofs.Learning.Known.{Known, known, known_auction, settled, ended_known, with_halted_known, later_known, timed_known, opening_known, ticking_known, responding_known, changing_known, withdrawing_known, view_known, look_known, shown_whole, known_step}
 use Rattle.session.proofs.Learning.Endings.{ends_in, ends_here_is, ended_follows, clocked_follows, ends_after_clock}
@@ -43,28 +43,28 @@ module _ {P T F Q : Type 0} (w : World P T F Q) (u : ℕ) (s : RoomState P Q) wh
   -- A timed call whose business is known.
   later_follows : {Y F : Type 0} (r : Option ℕ) (t : ℕ) (business : RoomState P Q → RoomState P Q × Result Y (RefusalTold F)) (goes : Known P Q → Known P Q)
       → (r ≡ None → (z : RoomState P Q) → known u (business z).0 ≡ goes (known u z))
-      → known u (timed r s t business).0 ≡ later_known r (known u s) t goes
-  later_follows None t business goes h = h refl (clocked s t) ∙ ap goes (clocked_follows u s t)
+      → known u (timed_call r s t business).0 ≡ later_known r (known u s) t goes
+  later_follows None t business goes h = h refl (after_clock s t) ∙ ap goes (clocked_follows u s t)
   later_follows (Some e) t business goes h = refl
 
   -- The member's own call: all of the answer is shown.
   own_shown : (member : ℕ) (r : Option ℕ) (t : ℕ) (y : RoomState P Q × Result StoredTerms (RefusalTold F)) (goes : Known P Q → Known P Q × Result StoredTerms (RefusalTold F)) (others : Known P Q × Option (Answer F))
       → eqb member u ≡ true → with_answer member y ≡ timed_known r (known member s) t goes
-      → (known u y.0, Some (answered Stored y.1)) ≡ cond (eqb member u) (shown_whole (timed_known r (known u s) t goes)) others
-  own_shown member r t y goes others h own =
-      ap shown_whole (subst (λ v. with_answer v y ≡ timed_known r (known v s) t goes) (eqb-true member u h) own) ∙ sym (cond-true (eqb member u) _ others h)
+      → (known u y.0, Some (answer_of_result Stored y.1)) ≡ cond (eqb member u) (shown_whole (timed_known r (known u s) t goes)) others
+  own_shown member r t y goes others h mine =
+      ap shown_whole (subst (λ v. with_answer v y ≡ timed_known r (known v s) t goes) (eqb-true member u h) mine) ∙ sym (cond-true (eqb member u) _ others h)
 
   -- Another's: none of it.
-  others_shown : (member : ℕ) (z : RoomState P Q) (k : Known P Q) (own : Known P Q × Option (Answer F)) → eqb member u ≡ false → known u z ≡ k
-      → (known u z, None) ≡ cond (eqb member u) own (k, None)
-  others_shown member z k own h e = ap (λ j. (j, None)) e ∙ sym (cond-false (eqb member u) own (k, None) h)
+  others_shown : (member : ℕ) (z : RoomState P Q) (k : Known P Q) (mine : Known P Q × Option (Answer F)) → eqb member u ≡ false → known u z ≡ k
+      → (known u z, None) ≡ cond (eqb member u) mine (k, None)
+  others_shown member z k mine h e = ap (λ j. (j, None)) e ∙ sym (cond-false (eqb member u) mine (k, None) h)
 
   -- An opening.
   opens_later : (r : Option ℕ) (x : OpeningRequest)
-      → let y = timed r s x.time (λ z. opening w z x.order) in
+      → let y = timed_call r s x.time (λ z. opening w z x.order) in
       known u y.0 ≡ later_known r (known u s) x.time (λ j. opening_known w u (opens_in y.1) j (opening_without x).order)
   opens_later None x =
-      let z = clocked s x.time in
+      let z = after_clock s x.time in
       opening_follows w u z x.order
       ∙ ap (λ j. opening_known w u (opens_in (opening w z x.order).1) j (opening_without x).order) (clocked_follows u s x.time)
   opens_later (Some e) x = refl
@@ -79,10 +79,10 @@ module _ {P T F Q : Type 0} (w : World P T F Q) (u : ℕ) (s : RoomState P Q) wh
 
   -- A response: the member's own, or another's.
   responds_later : (r : Option ℕ) (x : ResponseRequest) → (r ≡ None → 1 ≤ x.member) → eqb x.member u ≡ false
-      → let z = (timed r s x.time (λ v. responding {F = F} v x)).0 in
+      → let z = (timed_call r s x.time (λ v. responding {F = F} v x)).0 in
       known u z ≡ later_known r (known u s) x.time (settled (ends_in s.current z.current))
   responds_later None x g h =
-      let v = clocked s x.time in
+      let v = after_clock s x.time in
       let z = (responding {F = F} v x).0 in
       ends_after_clock u settled settled_over s x.time z (others_responding F u v x (g refl) h)
       ∙ ap (settled (ends_in s.current z.current)) (clocked_follows u s x.time)
@@ -90,7 +90,7 @@ module _ {P T F Q : Type 0} (w : World P T F Q) (u : ℕ) (s : RoomState P Q) wh
 
   respond_by : (b : Bool) (x : ResponseRequest) → eqb x.member u ≡ b
       → let y = respond_call {F = F} s x in
-      (known u y.0, cond b (Some (answered Stored y.1)) None)
+      (known u y.0, cond b (Some (answer_of_result Stored y.1)) None)
       ≡ known_step w u false (ends_in s.current y.0.current) (known u s) (Respond (response_without b x))
   respond_by true x h = own_shown x.member (respond_checks x) x.time (respond_call s x) (λ k. responding_known k x) _ h (own_responds F s x)
   respond_by false x h =
@@ -100,7 +100,7 @@ module _ {P T F Q : Type 0} (w : World P T F Q) (u : ℕ) (s : RoomState P Q) wh
   -- A change.
   change_by : (b : Bool) (x : ChangeRequest) → eqb x.member u ≡ b
       → let y = change_call {F = F} s x in
-      (known u y.0, cond b (Some (answered Stored y.1)) None) ≡ known_step w u false false (known u s) (Change (change_without b x))
+      (known u y.0, cond b (Some (answer_of_result Stored y.1)) None) ≡ known_step w u false false (known u s) (Change (change_without b x))
   change_by true x h = own_shown x.member (change_checks x) x.time (change_call s x) (λ k. changing_known k x) _ h (own_changes F s x)
   change_by false x h =
       others_shown x.member _ _ _ h
@@ -110,17 +110,17 @@ module _ {P T F Q : Type 0} (w : World P T F Q) (u : ℕ) (s : RoomState P Q) wh
   -- A withdrawal.
   withdraw_by : (b : Bool) (x : WithdrawRequest) → eqb x.member u ≡ b
       → let y = withdraw_call {F = F} s x in
-      (known u y.0, cond b (Some (answered Stored y.1)) None) ≡ known_step w u false false (known u s) (Withdraw x)
+      (known u y.0, cond b (Some (answer_of_result Stored y.1)) None) ≡ known_step w u false false (known u s) (Withdraw x)
   withdraw_by true x h = own_shown x.member (withdraw_checks x) x.time (withdraw_call s x) (λ k. withdrawing_known k x) _ h (own_withdraws F s x)
   withdraw_by false x h =
       others_shown x.member _ _ _ h (later_follows (withdraw_checks x) x.time (λ v. withdrawing v x) (λ k. k) (λ e v. others_withdrawing F u v x h))
 
   -- A tick.
   ticks_later : (r : Option ℕ) (t : ℕ) (x : T)
-      → let z = (timed r s t (λ v. ticking w v x)).0 in
+      → let z = (timed_call r s t (λ v. ticking w v x)).0 in
       known u z ≡ later_known r (known u s) t (λ j. ticking_known w u (ends_in s.current z.current) j x)
   ticks_later None t x =
-      let v = clocked s t in
+      let v = after_clock s t in
       let z = (ticking w v x).0 in
       ends_after_clock u (λ b j. ticking_known w u b j x) (ticking_over w u x) s t z (ticking_follows w u v x)
       ∙ ap (λ j. ticking_known w u (ends_in s.current z.current) j x) (clocked_follows u s t)

@@ -3,7 +3,7 @@ use Rattle.std.proofs.Common.{◌≡◌, ◌∷◌, [], Bool, true, false, cond,
 use Rattle.std.specs.Str.{byte}
 use Rattle.room.specs.Rooms.{claim_numbers, collected_answer, state_of, world_of}
 use Rattle.room.specs.Clock.{due}
-use Rattle.room.specs.State.{RoomState, at_time, ended}
+use Rattle.room.specs.State.{RoomState, at_time, after_end}
 use Rattle.session.specs.declared.call.Call.TheVariants.{Halt}
 use Rattle.session.specs.Claims.{claims_to}
 use Rattle.session.specs.SessionState.{session_of}
@@ -12,7 +12,7 @@ use Rattle.session.proofs.Closing.{first_collected, ok_as_told}
 use Rattle.room_examples.proofs.claims.settle.Goals as goal
 
 -- the clock step keeps the room's number
-number_kept : {P Q : Type 0} (b : Bool) (s : RoomState P Q) → (cond b (ended (byte "T") s) s).number ≡ s.number
+number_kept : {P Q : Type 0} (b : Bool) (s : RoomState P Q) → (cond b (after_end (byte "T") s) s).number ≡ s.number
 number_kept true s = refl
 number_kept false s = refl
 

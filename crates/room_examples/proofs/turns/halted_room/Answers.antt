@@ -6,7 +6,7 @@ use Rattle.room.specs.Rooms.{world_of}
 use Rattle.session.specs.declared.call.Call.TheVariants.{Halt, Look}
 use Rattle.session.specs.InTurn.{MethodCall}
 use Rattle.session.specs.Laws.{LawsOfRun}
-use Rattle.session.specs.Runs.{Moment, Accepted, Looked, answered}
+use Rattle.session.specs.Runs.{Moment, Accepted, Looked, answer_of_result}
 use Rattle.room_examples.proofs.turns.halted_room.Goals as goal
 
 pub returns : goal.returns
@@ -16,7 +16,7 @@ returns g c =
     let made = c.new-room.result in
     let room = c.halt-halted.new.self in
     let calls : List (MethodCall g.row.M.Denot g.row.R.Denot g.row.S.Denot g.row.M-Tick.Denot g.M.Market.Told) =
-    record { before = made; call = Halt c.args.time; answer = answered (λ _. Accepted) (told_by (refusal_told g.M.Market.told) c.halt-halted.result); after = room }
+    record { before = made; call = Halt c.args.time; answer = answer_of_result (λ _. Accepted) (told_by (refusal_told g.M.Market.told) c.halt-halted.result); after = room }
     ∷ (record { before = room; call = Look; answer = Looked c.look-view.result; after = room } ∷ []) in
     let did = c.calls_in_turn_are_a_run.ensures 1 p q made calls c.new-room.ensures.state (
       refl,

@@ -25,7 +25,7 @@ returns-in_default g c =
       session = is.0;
       answer = is.1;
       ranking = refl;
-      memory = λ cs m. let same = c.in_default.ensures.places in let claims = m.claims in let lists = m.lists in record { claims = omega arith; lists = omega arith };
+      memory = λ cs m. let same = c.in_default.ensures.free in let claims = m.claims in let lists = m.lists in record { claims = omega arith; lists = omega arith };
     }
 
 pub slice_bounds-take-end : goal.slice_bounds-take-end
@@ -61,7 +61,7 @@ returns-in-Ok g c =
       session = is.0;
       answer = is.1;
       ranking = c.collect.ensures.ranking;
-      memory = λ cs m. let more = c.in-Some.ensures.places in let less = c.take-rows.ensures.one in let claims = m.claims in let lists = m.lists in record { claims = omega arith; lists = omega arith };
+      memory = λ cs m. let more = c.in-Some.ensures.free in let less = c.take-rows.ensures.one in let claims = m.claims in let lists = m.lists in record { claims = omega arith; lists = omega arith };
     }
 
 pub returns-in-Err : goal.returns-in-Err
@@ -73,13 +73,13 @@ returns-in-Err g c =
     let claim = c.in-Some.taken.claim in
     let told = refused w first.room (claim_numbers claim) _ claim c.in-Err.claim (refusal_told g.M.Market.told c.in-Err.refusal) (ap (collection_answer g.M.Market.told) (sym c.in-Err.is) ∙ c.collect.ensures.answer) in
     let held = cond_some (holds numbers first.purse) numbers (claim_numbers claim) (sym c.in-Some.ensures.claim) in
-    let back = c.put_at.ensures.numbers ∙ ap (λ (x : Claim). insert c.take.new.self.numbers c.in-Some.taken.place (claim_numbers x)) told.1 ∙ c.in-Some.ensures.place.1 in
+    let back = c.put_back.ensures.numbers ∙ ap (λ (x : Claim). insert c.take.new.self.numbers c.in-Some.taken.index (claim_numbers x)) told.1 ∙ c.in-Some.ensures.index.1 in
     let is =
-    made w first.room first.purse numbers c.args.rows (claim_numbers claim) _ _ _ c.put_at.new.self.numbers held.0 (sym held.1) (as_long c.args.rows c.min.result _ c.min.ensures)
+    made w first.room first.purse numbers c.args.rows (claim_numbers claim) _ _ _ c.put_back.new.self.numbers held.0 (sym held.1) (as_long c.args.rows c.min.result _ c.min.ensures)
     c.collect.ensures.state (sym told.0) back in
     record {
       session = is.0;
       answer = is.1;
       ranking = c.collect.ensures.ranking;
-      memory = λ cs m. let more = c.in-Some.ensures.places in let less = c.put_at.ensures.places in let claims = m.claims in let lists = m.lists in record { claims = omega arith; lists = omega arith };
+      memory = λ cs m. let more = c.in-Some.ensures.free in let less = c.put_back.ensures.free in let claims = m.claims in let lists = m.lists in record { claims = omega arith; lists = omega arith };
     }

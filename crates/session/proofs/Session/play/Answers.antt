@@ -24,5 +24,5 @@ loop-call-preserved g c =
       session = one_ended w before _ call _ _ after took ∙ so_far.session;
       ranking = did.ranking ∙ so_far.ranking;
       memory = did.memory _ (subst (λ cs. HasMemoryFor c.loop-call.self cs) took so_far.memory);
-      places = let rest = ap length took in let held = so_far.places in omega arith;
+      free = let rest = ap length took in let before = so_far.free in omega arith;
     }

@@ -1,5 +1,5 @@
 -- With the calls that are left the session now comes to the same end, and to the same answers behind those so far, as the first
--- one did with all; its ranking is the first one's, and each call left has its memory and a place for its answer.
+-- one did with all; its ranking is the first one's, and each call left has its memory and memory for its answer.
 use Rattle.std.proofs.Common.{◌≡◌, ◌+◌, ◌≤◌, ◌++◌, map, length, vec_items, vec_len, vec_capacity}
 use Rattle.std.specs.Vec.Iter.{into_iter_items}
 use Rattle.session.specs.Session.{HasMemoryFor, session_now, session_world}
@@ -19,5 +19,5 @@ invariant-loop-call g l =
       session : session_end w now_at rest ≡ session_end w first all;
       ranking : l.self.room.ranking ≡ l.initial.self.room.ranking;
       memory : HasMemoryFor l.self rest;
-      places : vec_len l.answers + length rest ≤ vec_capacity l.answers;
+      free : vec_len l.answers + length rest ≤ vec_capacity l.answers;
     }

@@ -10,10 +10,10 @@ pub invariant_of-self-2 : goal.invariant_of-self-2
 invariant_of-self-2 g c =
     let before = c.reserve.new.self in
     let w = session_world g.M.Market.meaning g.S.IntervalSource.meaning g.R.Ranking.ahead before in
-    let held = c.reserve.ensures.same_claims ∙ c.args.self.now.all_held ∙ sym (ap claims_of_room c.reserve.ensures.same_room) in
+    let held = c.reserve.ensures.same_claims ∙ c.args.self.now.every_claim ∙ sym (ap claims_of_room c.reserve.ensures.same_room) in
     let after = c.make_call.ensures.session in
     record {
-      all_held =
+      every_claim =
           ap (λ (s : SessionState g.M.Market.Position g.S.IntervalSource.Position). s.purse) after
           ∙ match_kept w (session_now g.M.Market.position g.S.IntervalSource.position before) c.args.call held
           ∙ sym (ap (λ (s : SessionState g.M.Market.Position g.S.IntervalSource.Position). claims_to s.room) after);

@@ -22,7 +22,7 @@ invariant_of-self g c =
     let before = c.args.self.now.session in
     let did = c.run.ensures in
     record {
-      all_held =
+      every_claim =
           held_by g.M.Market.told g.M.Market.position g.S.IntervalSource.position (session_world g.M.Market.meaning g.S.IntervalSource.meaning g.R.Ranking.ahead before) vec_items before _ _ c.run.result
-          did.run did.room_back did.claims_back c.args.self.now.all_held;
+          did.run did.room_back did.claims_back c.args.self.now.every_claim;
     }

@@ -2,5 +2,5 @@
 use Rattle.std.proofs.Common.{◌≤◌}
 use Rattle.session.proofs.lists.RowLists.reserve.Given as goal
 
-abbrev pub invariant-loop-held : goal.invariant-loop-held
-invariant-loop-held l = l._held ≤ l.self
+abbrev pub invariant-loop-count : goal.invariant-loop-count
+invariant-loop-count l = l._count ≤ l.self
