@@ -1,21 +1,18 @@
 -- Scripts that are alike to a member have the same text for it. What a member reads is written of what it is shown at each
 -- call; and what it is shown is the same by the law of what a member may learn.
-use Rattle.std.proofs.Common.{◌≡◌, ◌++◌, ◌∙◌, ap, sym, subst, refl, ℕ, Bool, true, false, cond, List, [], ◌∷◌, map, ◌==◌, is_some, Option, Some, None, vec_items}
+use Rattle.std.proofs.Common.{◌≡◌, ◌++◌, ◌∙◌, ap, sym, subst, refl, ℕ, Bool, true, false, cond, List, [], ◌∷◌, map, ◌==◌, is_some, Option, Some, None}
 use Rattle.std.specs.Option.{option_map}
 use Rattle.day.specs.Alike.{EntriesAlike, LinesAlike, ScriptAlikeToItself, MemberReadsTheSame}
 use Rattle.day.specs.Calls.{call_in, calls_in}
 use Rattle.day.specs.CarriedOut.{world_in, start_in}
-use Rattle.day.specs.ForMember.{transcript_line, answered_line, line_for, answers_behind, text_for}
-use Rattle.day.specs.Lines.{CubeCall, Line, Entry, Replied, Call, Range}
-use Rattle.market.specs.Cube.{CubePosition}
-use Rattle.market.specs.declared.better_of.Half.{Half}
-use Rattle.market.specs.declared.leg.LegTick.{LegTick}
-use Rattle.market.specs.declared.quote.Quote.{Quote}
+use Rattle.day.specs.Member.{transcript_line, answered_line, line_for, answers_behind, text_for}
+use Rattle.day.specs.Lines.{CubeCall, Line, Entry, Call}
+use Rattle.market.specs.Cube.{CubeTick, CubePosition, CubeFaultTold}
 use Rattle.room.specs.World.{World}
 use Rattle.script.specs.declared.chosen.ChosenInterval.{ChosenInterval}
 use Rattle.session.specs.declared.call.Call.TheVariants as call
 use Rattle.script.specs.Answer.{answer_text}
-use Rattle.script.specs.Told.{CubeFaultTold, AnswerTold, answer_told}
+use Rattle.script.specs.Told.{AnswerTold}
 use Rattle.session.specs.Learning.{AllAlike}
 use Rattle.session.specs.Runs.{Answer, Moment, Accepted}
 use Rattle.session.specs.Promises.{at_first}
@@ -44,9 +41,9 @@ seen_line n (Some a) = transcript_line n (answer_text (Some a))
 abbrev any_answer : Answer CubeFaultTold
 any_answer = Accepted
 
-module _ (w : World CubePosition (Half Quote LegTick) CubeFaultTold ChosenInterval) where
+module _ (w : World CubePosition CubeTick CubeFaultTold ChosenInterval) where
   abbrev AMoment : Type 0
-  AMoment = Moment CubePosition (Half Quote LegTick) CubeFaultTold ChosenInterval
+  AMoment = Moment CubePosition CubeTick CubeFaultTold ChosenInterval
 
   abbrev answer_of : Option AMoment → AnswerTold
   answer_of = option_map (λ (m : AMoment). m.answer)

@@ -2,7 +2,7 @@
 use Rattle.std.specs.Prelude.{◌≡◌, ℕ, List, [], ◌∷◌, map}
 use Rattle.day.specs.Calls.{calls_in}
 use Rattle.day.specs.CarriedOut.{world_in, start_in}
-use Rattle.day.specs.ForMember.{TextFor}
+use Rattle.day.specs.Member.{TextFor}
 use Rattle.day.specs.Lines.{Line, Entry, Call}
 use Rattle.script.specs.declared.setup.room_terms.RoomTerms.{RoomTerms}
 use Rattle.session.specs.Learning.{Alike}

@@ -1,14 +1,10 @@
 -- What carrying out the calls of a script comes to.
 use Rattle.std.specs.Prelude.{◌≡◌, List, []}
-use Rattle.day.specs.Calls.{calls_in}
-use Rattle.day.specs.Lines.{CubeCall, Line}
-use Rattle.market.specs.Cube.{CubePosition, cube_meaning, cube_position, cube_start}
+use Rattle.day.specs.Lines.{CubeCall}
+use Rattle.market.specs.Cube.{CubeTick, CubePosition, cube_meaning, cube_position, cube_start, CubeFaultTold}
 use Rattle.market.specs.declared.better_of.BetterOf.{BetterOf}
-use Rattle.market.specs.declared.better_of.Half.{Half}
 use Rattle.market.specs.declared.improve.Improve.{Improve}
 use Rattle.market.specs.declared.legs.Legs.{Legs}
-use Rattle.market.specs.declared.leg.LegTick.{LegTick}
-use Rattle.market.specs.declared.quote.Quote.{Quote}
 use Rattle.market.specs.declared.touch.Touch.{Touch}
 use Rattle.market.specs.Legs.{legs_of}
 use Rattle.room.specs.Rooms.{state_of, world_of}
@@ -18,16 +14,16 @@ use Rattle.script.specs.Chosen.{chosen_ahead, chosen_meaning}
 use Rattle.script.specs.declared.chosen.ChosenInterval.{ChosenInterval}
 use Rattle.script.specs.declared.chosen.ChosenRanking.{ChosenRanking}
 use Rattle.script.specs.declared.setup.room_terms.RoomTerms.{RoomTerms}
-use Rattle.script.specs.Told.{AnswerTold, CubeFaultTold}
+use Rattle.script.specs.Told.{AnswerTold}
 use Rattle.session.specs.Claims.{claims_to}
-use Rattle.session.specs.Closed.{with_close, ToldAtClose, told_at_close}
+use Rattle.session.specs.Closed.{with_close, ClosedTold, told_at_close}
 use Rattle.session.specs.declared.desk.Desk.{Desk}
 use Rattle.session.specs.Desk.{at_desk}
 use Rattle.session.specs.Promises.{Start, Carried, WholePromise}
 use Rattle.session.specs.SessionState.{session_answers, session_end}
 
 abbrev pub CubeWorld : Type 0
-CubeWorld = World CubePosition (Half Quote LegTick) CubeFaultTold ChosenInterval
+CubeWorld = World CubePosition CubeTick CubeFaultTold ChosenInterval
 
 abbrev pub CubeRoom : Type 0
 CubeRoom = RoomState CubePosition ChosenInterval
@@ -60,16 +56,13 @@ answers_to w s cs = session_answers w (at_desk s) cs
 abbrev pub room_behind : CubeWorld → CubeRoom → List CubeCall → CubeRoom
 room_behind w s cs = (session_end w (at_desk s) cs).room
 
-abbrev pub answers_at : CubeDesk → List CubeCall → List AnswerTold
-answers_at d cs = answers_to (world_at d) (room_at d) cs
-
 -- The desk behind these calls.
 pub record DeskBehind (before : CubeDesk) (calls : List CubeCall) (after : CubeDesk) : Type 0 where
   pub room : room_at after ≡ room_behind (world_at before) (room_at before) calls
   pub ranking : after.session.room.ranking ≡ before.session.room.ranking
 
 -- The calls with their answers, behind the last of which the room was in this state.
-abbrev pub calls_carried : RoomTerms → List CubeCall → List AnswerTold → CubeRoom → Carried CubePosition (Half Quote LegTick) CubeFaultTold ChosenInterval
+abbrev pub calls_carried : RoomTerms → List CubeCall → List AnswerTold → CubeRoom → Carried CubePosition CubeTick CubeFaultTold ChosenInterval
 calls_carried terms calls answers room = record { start = start_in terms; calls = calls; answers = answers; room = room; claims = claims_to room }
 
 pub record CarriedOut (terms : RoomTerms) (calls : List CubeCall) : Type 0 where
@@ -79,7 +72,7 @@ pub record CarriedOut (terms : RoomTerms) (calls : List CubeCall) : Type 0 where
   -- The whole promise holds of the calls and their answers,
   pub promise : WholePromise (world_in terms) (calls_carried terms calls answers room)
   -- what is told of each auction that the room then held is the model's, when it is halted and they are collected,
-  pub at_end : List ToldAtClose
+  pub at_end : List ClosedTold
   pub told_at_end : at_end ≡ told_at_close (world_in terms) room
   -- and the whole promise holds on, of the calls and this halt and these collectings, with what is told as their answers.
   pub closed_room : CubeRoom

@@ -11,9 +11,10 @@ use script::setup::room_terms::RoomTerms;
 use session::desk::Desk;
 use std::alloc::Global;
 
+/// A desk over the CUBE market, with the ranking and the interval source that a script chooses.
 pub(crate) type CubeDesk = Desk<CubeMarket, ChosenRanking, ChosenInterval>;
 
-// A desk with the room of these terms.
+/// A desk with the room of these terms.
 pub(crate) fn desk_of(heap: Global, terms: RoomTerms) -> CubeDesk
     ensures room { room_at result ≡ new_room terms.number (cube_start (legs_of terms.legs)) terms.source }
     ensures ranking { result.session.room.ranking ≡ terms.ranking }

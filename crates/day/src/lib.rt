@@ -2,8 +2,13 @@
 #![tactic(auto)]
 
 mod desk;
+pub mod ends;
+pub mod fills;
 pub mod laws;
 pub mod lines;
 mod member;
+mod notes;
+pub mod reading;
+pub mod source;
 pub mod transcript;
 mod whole;

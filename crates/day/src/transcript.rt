@@ -1,12 +1,14 @@
 // The transcript of a script: the text of its answers.
 ghost use Rattle.std.specs.Prelude.{◌≡◌, IfOk, map, string_bytes, vec_items};
-ghost use Rattle.day.specs.ForMember.{TextFor, TranscriptFor};
-ghost use Rattle.day.specs.WholeText.{WholeTranscript};
+ghost use Rattle.day.specs.Member.{TextFor, TranscriptFor};
+ghost use Rattle.day.specs.Whole.{WholeTranscript};
 ghost use Rattle.day.specs.Lines.{line_value, entry_value, is_understood, is_all_understood, script_lines};
 
 use crate::desk::desk_of;
+use crate::ends::Ends;
 use crate::lines::{Entry, Line, Script};
-use crate::member::write_lines;
+use crate::member::MemberText;
+use crate::notes::carry_out;
 use crate::whole::{replies_text, whole_text};
 use market::cube::CubeMarket;
 use script::chosen::{ChosenInterval, ChosenRanking};
@@ -18,7 +20,9 @@ use std::alloc::{AllocError, Global};
 /// What is printed, and whether every statement of the script is understood.
 #[derive(Drop)]
 pub struct Transcript {
+    /// The text.
     pub text: String,
+    /// Every statement is understood.
     pub understood: bool,
 }
 
@@ -41,15 +45,19 @@ fn text_for(
     terms: RoomTerms,
     member: u8,
 ) -> Result<String, AllocError>
-    ensures { IfOk result (λ text. TextFor member terms (map line_value (vec_items lines)) (string_bytes text)) }
+    ensures { IfOk result (λ text. TextFor member terms (map line_value (vec_items lines)) (string_bytes
+        text)) }
 {
     model_keeps_the_promise::<CubeMarket, ChosenInterval, ChosenRanking>(&terms.ranking);
     let mut desk = desk_of(heap, terms);
-    let mut text = String::new(heap);
-    let written = write_lines(heap, &mut text, &mut desk, lines, member);
+    let mut seen = MemberText {
+        member,
+        text: String::new(heap),
+    };
+    let written = carry_out(heap, &mut seen, &mut desk, lines);
     let _closed = desk.close();
     written?;
-    Ok(text)
+    Ok(seen.text)
 }
 
 /// Carries out a script. The text has what the member may see, and nothing else.
@@ -66,16 +74,17 @@ pub fn transcript_for(heap: Global, script: &str, member: u8) -> Result<Transcri
     Ok(Transcript { text, understood })
 }
 
-/// Carries out a script. The text has the answers to all its statements, and those to the collectings at its end.
+/// Carries out a script. The text has the answers to all its statements, and those to the collectings at
+/// its end; and where auctions end, if that is asked for.
 #[tactic(auto, using(crate::proofs::AtOnce::none_left_out))]
-pub fn whole_transcript(heap: Global, script: &str) -> Result<Transcript, AllocError>
-    ensures text { IfOk result (λ t. WholeTranscript script.now (string_bytes t.text)) }
+pub fn whole_transcript(heap: Global, script: &str, ends: Ends) -> Result<Transcript, AllocError>
+    ensures text { IfOk result (λ t. WholeTranscript ends script.now (string_bytes t.text)) }
     ensures understood { IfOk result (λ t. t.understood ≡ is_all_understood (script_lines script.now)) }
 {
     let Script { lines, room } = Script::read(heap, script)?;
     let understood = is_all_understood(&lines);
     let text = match room {
-        Some(terms) => whole_text(heap, lines, terms)?,
+        Some(terms) => whole_text(heap, lines, terms, ends)?,
         None => replies_text(heap, &lines)?,
     };
     Ok(Transcript { text, understood })

@@ -6,14 +6,14 @@ use Rattle.std.proofs.lemmas.Str.Parse.{IsNumeralModel, numerals_by_value, tells
 use Rattle.std.specs.Fmt.{decimal, signed_decimal}
 use Rattle.std.specs.Int.{w64}
 use Rattle.std.specs.List.{list_all}
-use Rattle.std.specs.Prelude.{FitsSigned, codes}
+use Rattle.std.specs.Prelude.{FitsSigned, codes, nat_lt}
 use Rattle.std.specs.Option.{option_map}
 use Rattle.std.specs.Str.{all_ascii_digits, bytes_eq}
 use Rattle.std.specs.Str.Parse.{AllDigits, digits_value}
 use Rattle.script.proofs.Spaced.{plain, and_true}
 use Rattle.script.specs.declared.misread.Expected.{Expected}
 use Rattle.script.specs.Number.{number_in, signed_in, price_in}
-use Rattle.script.specs.Readers.{Word, has_minus, a_number, a_price}
+use Rattle.script.specs.Readers.{Word, has_minus, a_number, exact_number, a_price}
 use Rattle.script.specs.Words.{is_blank, is_comment, has_bytes}
 
 digits_model : IsNumeralModel (λ ds. all_ascii_digits ds ≡ true) (digits_value 10)
@@ -50,6 +50,12 @@ pub number_again : (bits n : ℕ) (what : Expected) (ws : List Word) → n < 2 ^
 number_again bits n what ws h k =
     let least : min (2 ^ bits - 1) n ≡ n = omega arith in
     rw (no_minus (decimal n) (digits_decimal digits_model n k), number_in-decimal n k, least) refl
+
+-- So does one that has to be what is written.
+pub exact_again : (n : ℕ) (what : Expected) (ws : List Word) → n < 2 ^ 32 → exact_number what (decimal n ∷ ws) ≡ Ok (n, ws)
+exact_again n what ws h =
+    let small : nat_lt n (2 ^ 32) ≡ true = grind (arith, nat_tests) in
+    rw (number_again 64 n what ws (omega arith) (omega arith), small) refl
 
 signed_digits : (ds : List ℕ) → has_bytes ds ≡ true → all_ascii_digits ds ≡ true → signed_in ds ≡ option_map pos (number_in ds)
 signed_digits [] h k = cc

@@ -10,15 +10,15 @@ use Rattle.allocation.specs.declared.response.Class.{Class}
 use Rattle.allocation.specs.declared.response.Class.TheVariants.{Customer, Other}
 use Rattle.allocation.specs.declared.response.Kind.{Kind}
 use Rattle.allocation.specs.declared.response.Kind.TheVariants.{Sealed, Plain}
+use Rattle.market.specs.Cube.{CubeTick}
 use Rattle.market.specs.Side.{side_name}
-use Rattle.market.specs.declared.better_of.Half.{Half}
 use Rattle.market.specs.declared.better_of.Half.TheVariants.{Left, Right}
 use Rattle.market.specs.declared.leg.LegTick.{LegTick}
 use Rattle.market.specs.declared.quote.Quote.{Quote}
 use Rattle.market.specs.declared.side.Side.{Side}
 use Rattle.market.specs.declared.side.Side.TheVariants.{Buy, Sell}
-use Rattle.script.proofs.NumbersAgain.{plain_decimal, plain_signed, number_again, price_again, price_in-signed, signed_is_not_none}
-use Rattle.script.proofs.Spaced.{plain, and_true, line_words-spaced}
+use Rattle.script.proofs.NumbersAgain.{plain_decimal, plain_signed, number_again, exact_again, price_again, price_in-signed, signed_is_not_none}
+use Rattle.script.proofs.Spaced.{plain, and_true, line_words-with_blanks}
 use Rattle.script.specs.declared.chosen.ChosenRanking.{ChosenRanking}
 use Rattle.script.specs.declared.chosen.ChosenRanking.TheVariants.{Arrival, Size}
 use Rattle.script.specs.declared.misread.Expected.{Expected}
@@ -85,10 +85,10 @@ opening_again n x (time, member, size, limit, price) =
 
 response_again : (n : ℕ) (x : ResponseRequest) → CallFits n (call.Respond x) → respond (response_words x) ≡ Ok (statement.Call (call.Respond x), [])
 unfolding respond
-response_again n x (time, member, own, size, price) =
+response_again n x (time, member, own_number, size, price) =
     then _ x.time _ (number_again 64 x.time expected.Time _ time time)
     (then _ x.member _ (number_again 8 x.member expected.Member _ member (omega arith))
-    (then _ x.own _ (number_again 8 x.own expected.OwnNumber _ own (omega arith))
+    (then _ x.own_number _ (number_again 8 x.own_number expected.OwnNumber _ own_number (omega arith))
     (then _ x.side _ (side_again x.side _)
     (then _ x.kind _ (kind_again x.kind _)
     (then _ x.class _ (class_again x.class _)
@@ -97,19 +97,19 @@ response_again n x (time, member, own, size, price) =
 
 change_again : (n : ℕ) (x : ChangeRequest) → CallFits n (call.Change x) → change (drop 1 (call_words (call.Change x))) ≡ Ok (statement.Call (call.Change x), [])
 unfolding change
-change_again n x (time, member, own, size, price) =
+change_again n x (time, member, own_number, size, price) =
     then _ x.time _ (number_again 64 x.time expected.Time _ time time)
     (then _ x.member _ (number_again 8 x.member expected.Member _ member (omega arith))
-    (then _ x.own _ (number_again 8 x.own expected.OwnNumber _ own (omega arith))
+    (then _ x.own_number _ (number_again 8 x.own_number expected.OwnNumber _ own_number (omega arith))
     (then _ x.size _ (number_again 32 x.size expected.Size _ size (omega arith))
     (then _ x.price _ (price_again x.price expected.Price _ price) refl))))
 
 withdrawal_again : (n : ℕ) (x : WithdrawRequest) → CallFits n (call.Withdraw x) → withdraw (drop 1 (call_words (call.Withdraw x))) ≡ Ok (statement.Call (call.Withdraw x), [])
 unfolding withdraw
-withdrawal_again n x (time, member, own) =
+withdrawal_again n x (time, member, own_number) =
     then _ x.time _ (number_again 64 x.time expected.Time _ time time)
     (then _ x.member _ (number_again 8 x.member expected.Member _ member (omega arith))
-    (then _ x.own _ (number_again 8 x.own expected.OwnNumber _ own (omega arith)) refl))
+    (then _ x.own_number _ (number_again 8 x.own_number expected.OwnNumber _ own_number (omega arith)) refl))
 
 book_price_again : (z : Option ℤ) (what : Expected) (ws : List Word) → BookPriceFits z → one_of book_price_named what (book_price_word z ∷ ws) ≡ Ok (z, ws)
 book_price_again None what ws h = refl
@@ -126,7 +126,7 @@ leg_tick_again x (number, bid, offer) =
     (then _ x.quote.bid _ (price_again x.quote.bid expected.Bid _ bid)
     (then _ x.quote.offer _ (price_again x.quote.offer expected.Offer _ offer) refl))
 
-tick_again : (n : ℕ) (time : ℕ) (x : Half Quote LegTick) → CallFits n (call.Tick time x) → tick (drop 1 (call_words (call.Tick time x))) ≡ Ok (statement.Call (call.Tick time x), [])
+tick_again : (n : ℕ) (time : ℕ) (x : CubeTick) → CallFits n (call.Tick time x) → tick (drop 1 (call_words (call.Tick time x))) ≡ Ok (statement.Call (call.Tick time x), [])
 unfolding tick
 tick_again n time (Left q) (t, held) = then _ time _ (number_again 64 time expected.Time _ t t) (then _ (Left q) _ (book_tick_again q held) refl)
 tick_again n time (Right x) (t, held) = then _ time _ (number_again 64 time expected.Time _ t t) (then _ (Right x) _ (leg_tick_again x held) refl)
@@ -151,7 +151,7 @@ collecting_again n c rows (same, a, r) =
 
 room_again : (number : ℕ) → number < 2 ^ 32 → room (decimal number ∷ []) ≡ Ok (statement.Setting (setting.Room number), [])
 unfolding room
-room_again number h = then _ number _ (number_again 32 number expected.RoomNumber _ h (omega arith)) refl
+room_again number h = then _ number _ (exact_again number expected.RoomNumber _ h) refl
 
 leg_again : (x : LegTerms) → x.ratio < 2 ^ 8 → leg (side_name x.side ∷ decimal x.ratio ∷ []) ≡ Ok (statement.Setting (setting.Leg x), [])
 unfolding leg
@@ -170,7 +170,7 @@ source_of (Drawn n) = source.Drawn
 
 interval_of_again : (x : IntervalTerms) → IntervalFits x → interval_of (source_of x) (drop 1 (interval_words x)) ≡ Ok (x, [])
 interval_of_again (Fixed n) h = then _ n _ (number_again 32 n expected.Milliseconds _ h (omega arith)) refl
-interval_of_again (Drawn n) h = then _ n _ (number_again 32 n expected.Seed _ h (omega arith)) refl
+interval_of_again (Drawn n) h = then _ n _ (exact_again n expected.Seed _ h) refl
 
 interval_again : (x : IntervalTerms) → IntervalFits x → interval (interval_words x) ≡ Ok (statement.Setting (setting.Interval x), [])
 unfolding interval
@@ -231,7 +231,7 @@ plain_interval : (x : IntervalTerms) → IntervalFits x → list_all plain (inte
 plain_interval (Fixed n) h = and_true refl (and_true (plain_decimal n (omega arith)) refl)
 plain_interval (Drawn n) h = and_true refl (and_true (plain_decimal n (omega arith)) refl)
 
-plain_tick : (x : Half Quote LegTick) → TickFits x → list_all plain (tick_words x) ≡ true
+plain_tick : (x : CubeTick) → TickFits x → list_all plain (tick_words x) ≡ true
 plain_tick (Left q) (bid, offer) = and_true refl (and_true (plain_book_price q.bid bid) (and_true (plain_book_price q.offer offer) refl))
 plain_tick (Right x) (number, bid, offer) =
     and_true refl (and_true (plain_decimal x.leg (omega arith)) (and_true (plain_signed x.quote.bid bid) (and_true (plain_signed x.quote.offer offer) refl)))
@@ -244,14 +244,14 @@ plain_words number (statement.Setting (setting.Interval x)) h = and_true refl (p
 plain_words number (statement.Call (call.Open x)) (time, member, size, limit, price) =
     and_true refl (and_true (plain_decimal x.time time) (and_true (plain_decimal x.member (omega arith)) (and_true (plain_side x.order.side) (and_true (plain_decimal x.order.size (omega arith))
     (and_true refl (and_true (plain_signed x.order.limit limit) (and_true (plain_guarantee x.order.guarantee.kind) (and_true (plain_signed x.order.guarantee.price price) refl))))))))
-plain_words number (statement.Call (call.Respond x)) (time, member, own, size, price) =
-    and_true refl (and_true (plain_decimal x.time time) (and_true (plain_decimal x.member (omega arith)) (and_true (plain_decimal x.own (omega arith)) (and_true (plain_side x.side)
+plain_words number (statement.Call (call.Respond x)) (time, member, own_number, size, price) =
+    and_true refl (and_true (plain_decimal x.time time) (and_true (plain_decimal x.member (omega arith)) (and_true (plain_decimal x.own_number (omega arith)) (and_true (plain_side x.side)
     (and_true (plain_kind x.kind) (and_true (plain_class x.class) (and_true (plain_decimal x.size (omega arith)) (and_true refl (and_true (plain_signed x.price price) refl)))))))))
-plain_words number (statement.Call (call.Change x)) (time, member, own, size, price) =
-    and_true refl (and_true (plain_decimal x.time time) (and_true (plain_decimal x.member (omega arith)) (and_true (plain_decimal x.own (omega arith))
+plain_words number (statement.Call (call.Change x)) (time, member, own_number, size, price) =
+    and_true refl (and_true (plain_decimal x.time time) (and_true (plain_decimal x.member (omega arith)) (and_true (plain_decimal x.own_number (omega arith))
     (and_true (plain_decimal x.size (omega arith)) (and_true refl (and_true (plain_signed x.price price) refl))))))
-plain_words number (statement.Call (call.Withdraw x)) (time, member, own) =
-    and_true refl (and_true (plain_decimal x.time time) (and_true (plain_decimal x.member (omega arith)) (and_true (plain_decimal x.own (omega arith)) refl)))
+plain_words number (statement.Call (call.Withdraw x)) (time, member, own_number) =
+    and_true refl (and_true (plain_decimal x.time time) (and_true (plain_decimal x.member (omega arith)) (and_true (plain_decimal x.own_number (omega arith)) refl)))
 plain_words number (statement.Call (call.Tick time x)) (t, held) = and_true refl (and_true (plain_decimal time t) (plain_tick x held))
 plain_words number (statement.Call (call.Halt time)) h = and_true refl (and_true (plain_decimal time h) refl)
 plain_words number (statement.Call (call.Resume time)) h = and_true refl (and_true (plain_decimal time h) refl)
@@ -262,4 +262,4 @@ plain_words number (statement.Range q) h = and_true refl (and_true (plain_side q
 
 -- The text of a statement is read as the statement.
 pub statement_again : (number : ℕ) (s : Statement) → StatementFits number s → statement_in number (statement_text s) ≡ Ok (Some s)
-statement_again number s h = ap (statement_of number) (line_words-spaced (statement_words s) (plain_words number s h)) ∙ words_again number s h
+statement_again number s h = ap (statement_of number) (line_words-with_blanks (statement_words s) (plain_words number s h)) ∙ words_again number s h

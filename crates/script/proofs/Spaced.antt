@@ -4,7 +4,7 @@ use Rattle.std.proofs.Math.Numerals.{one-add}
 use Rattle.std.specs.List.{list_all, before_first}
 use Rattle.script.specs.Readers.{Word}
 use Rattle.script.specs.Words.{is_blank, is_comment, onto_first, pieces, has_bytes, words_in, line_words}
-use Rattle.script.specs.Write.{spaced}
+use Rattle.script.specs.Write.{with_blanks}
 
 -- A word has a byte at least, and no blank and no comment.
 abbrev pub plain : Word → Bool
@@ -56,22 +56,22 @@ no_blank w h = left_true (list_all (λ b. not (is_blank b)) w) (list_all (λ b. 
 no_comment : (w : Word) → plain w ≡ true → list_all (λ b. not (is_comment b)) w ≡ true
 no_comment w h = right_true (list_all (λ b. not (is_blank b)) w) (list_all (λ b. not (is_comment b)) w) (right_true (has_bytes w) (list_all (λ b. not (is_blank b)) w && list_all (λ b. not (is_comment b)) w) h)
 
-spaced_has_no_comment : (ws : List Word) → list_all plain ws ≡ true → list_all (λ b. not (is_comment b)) (spaced ws) ≡ true
+spaced_has_no_comment : (ws : List Word) → list_all plain ws ≡ true → list_all (λ b. not (is_comment b)) (with_blanks ws) ≡ true
 spaced_has_no_comment [] h = refl
 spaced_has_no_comment (w ∷ []) h = no_comment w (left_true (plain w) true h)
 spaced_has_no_comment (w ∷ v ∷ ws) h =
-    all_of_append (λ b. not (is_comment b)) w (32 ∷ spaced (v ∷ ws)) (no_comment w (left_true (plain w) (list_all plain (v ∷ ws)) h))
+    all_of_append (λ b. not (is_comment b)) w (32 ∷ with_blanks (v ∷ ws)) (no_comment w (left_true (plain w) (list_all plain (v ∷ ws)) h))
     (spaced_has_no_comment (v ∷ ws) (right_true (plain w) (list_all plain (v ∷ ws)) h))
 
-words_of_spaced : (ws : List Word) → list_all plain ws ≡ true → words_in (spaced ws) ≡ ws
+words_of_spaced : (ws : List Word) → list_all plain ws ≡ true → words_in (with_blanks ws) ≡ ws
 words_of_spaced [] h = refl
 words_of_spaced (w ∷ []) h =
     let p : plain w ≡ true = left_true (plain w) true h in
     rw (piece_of_last is_blank w (no_blank w p), has w p) refl
 words_of_spaced (w ∷ v ∷ ws) h =
     let p : plain w ≡ true = left_true (plain w) (list_all plain (v ∷ ws)) h in
-    rw (piece_of_word is_blank w (spaced (v ∷ ws)) 32 (no_blank w p) refl, has w p) (ap (λ r. w ∷ r) (words_of_spaced (v ∷ ws) (right_true (plain w) (list_all plain (v ∷ ws)) h)))
+    rw (piece_of_word is_blank w (with_blanks (v ∷ ws)) 32 (no_blank w p) refl, has w p) (ap (λ r. w ∷ r) (words_of_spaced (v ∷ ws) (right_true (plain w) (list_all plain (v ∷ ws)) h)))
 
 -- The words of the line are the words that were written.
-pub line_words-spaced : (ws : List Word) → list_all plain ws ≡ true → line_words (spaced ws) ≡ ws
-line_words-spaced ws h = rw (nothing_cut is_comment (spaced ws) (spaced_has_no_comment ws h)) (words_of_spaced ws h)
+pub line_words-with_blanks : (ws : List Word) → list_all plain ws ≡ true → line_words (with_blanks ws) ≡ ws
+line_words-with_blanks ws h = rw (nothing_cut is_comment (with_blanks ws) (spaced_has_no_comment ws h)) (words_of_spaced ws h)

@@ -14,7 +14,8 @@ use Rattle.room.specs.declared.answers.View.{View}
 use Rattle.room.specs.Collecting.{CollectionTold}
 use Rattle.room.specs.Refusals.{RefusalTold}
 use Rattle.script.specs.declared.transcript.range.RangeTold.{RangeTold}
-use Rattle.script.specs.Told.{CubeFaultTold, AnswerTold}
+use Rattle.market.specs.Cube.{CubeFaultTold}
+use Rattle.script.specs.Told.{AnswerTold}
 use Rattle.session.specs.Runs.{Opened, Stored, Accepted, Looked, Collected, Refused}
 
 abbrev pub kind_text : Kind → List ℕ
@@ -28,7 +29,7 @@ stored_text s = decimal s.size ++ codes " @ " ++ signed_decimal s.price
 -- member 2 own 1 customer sealed, or contra, whose rows have the member 0
 abbrev pub party_text : FillRow → List ℕ
 party_text r = cond (r.member == 0) (codes "contra")
-    (codes "member " ++ decimal r.member ++ codes " own " ++ decimal r.own ++ codes " " ++ class_name r.class ++ codes " " ++ kind_text r.kind)
+    (codes "member " ++ decimal r.member ++ codes " own " ++ decimal r.own_number ++ codes " " ++ class_name r.class ++ codes " " ++ kind_text r.kind)
 
 -- 300 member 2 own 1 customer sealed filled 30 left 0
 abbrev pub row_text : FillRow → List ℕ

@@ -4,10 +4,10 @@ use Rattle.std.specs.Result.{result_map_both}
 use Rattle.allocation.specs.declared.response.Key.{Key}
 use Rattle.allocation.specs.Ranking.{earlier, larger}
 use Rattle.interval.specs.declared.refusal.IntervalRefusal.{IntervalRefusal}
-use Rattle.interval.specs.Fixed.{fixed_made}
+use Rattle.interval.specs.Fixed.{new_fixed}
 use Rattle.interval.specs.Refusal.{interval_refusal_number}
 use Rattle.interval.specs.Source.{SourceMeaning}
-use Rattle.interval.specs.Stepping.{stepped, drawn}
+use Rattle.interval.specs.Stepping.{next_seed, next_length}
 use Rattle.script.specs.declared.statement.IntervalTerms.{IntervalTerms}
 use Rattle.script.specs.declared.statement.IntervalTerms.TheVariants as terms
 use Rattle.script.specs.declared.chosen.ChosenInterval.{ChosenInterval}
@@ -23,12 +23,12 @@ chosen_ahead Size = larger
 -- What a draw answers: the fixed length, or what follows from the seed.
 abbrev pub chosen_draws : ChosenInterval → ℕ
 chosen_draws (Fixed s) = s.length
-chosen_draws (Drawn s) = drawn s.seed
+chosen_draws (Drawn s) = next_length s.seed
 
 -- A draw leaves a fixed interval as it is, and steps a seed.
 abbrev pub chosen_next : ChosenInterval → ChosenInterval
 chosen_next (Fixed s) = Fixed s
-chosen_next (Drawn s) = Drawn (record { seed = stepped s.seed })
+chosen_next (Drawn s) = Drawn (record { seed = next_seed s.seed })
 
 abbrev pub chosen_meaning : SourceMeaning ChosenInterval
 chosen_meaning = record { draws = chosen_draws; next = chosen_next }
@@ -40,7 +40,7 @@ interval_terms (Drawn s) = terms.Drawn s.seed
 
 -- An interval source of these terms: refusal 8 for a fixed length outside 100 to 1,000.
 abbrev pub interval_made : IntervalTerms → Result IntervalTerms ℕ
-interval_made (terms.Fixed n) = result_map_both terms.Fixed (λ e. e) (fixed_made n)
+interval_made (terms.Fixed n) = result_map_both terms.Fixed (λ e. e) (new_fixed n)
 interval_made (terms.Drawn n) = Ok (terms.Drawn n)
 
 -- The terms of a source that was made, or the refusal's number.

@@ -1,11 +1,9 @@
 -- Which statements there are in code, in the script of a room: their numbers are such as the words of their types hold, and a
 -- collecting is one of that room.
+use Rattle.market.specs.Cube.{CubeTick}
 use Rattle.std.specs.Prelude.{◌≡◌, ℕ, ◌<◌, ◌^◌, ℤ, Option, Some, None, FitsSigned}
 use Rattle.std.specs.Int.{w64}
-use Rattle.market.specs.declared.better_of.Half.{Half}
 use Rattle.market.specs.declared.better_of.Half.TheVariants.{Left, Right}
-use Rattle.market.specs.declared.leg.LegTick.{LegTick}
-use Rattle.market.specs.declared.quote.Quote.{Quote}
 use Rattle.script.specs.declared.statement.IntervalTerms.{IntervalTerms}
 use Rattle.script.specs.declared.statement.IntervalTerms.TheVariants.{Fixed, Drawn}
 use Rattle.script.specs.declared.statement.Setting.TheVariants as setting
@@ -33,15 +31,15 @@ SettingFits (setting.Leg x) = x.ratio < 2 ^ 8
 SettingFits (setting.Ranking r) = Unit {0}
 SettingFits (setting.Interval x) = IntervalFits x
 
-abbrev pub TickFits : Half Quote LegTick → Type 0
+abbrev pub TickFits : CubeTick → Type 0
 TickFits (Left q) = BookPriceFits q.bid × BookPriceFits q.offer
 TickFits (Right t) = (t.leg < 2 ^ 32) × PriceFits t.quote.bid × PriceFits t.quote.offer
 
-abbrev pub CallFits : ℕ → Call (Half Quote LegTick) → Type 0
+abbrev pub CallFits : ℕ → Call CubeTick → Type 0
 CallFits room (call.Open x) = (x.time < 2 ^ 64) × (x.member < 2 ^ 8) × (x.order.size < 2 ^ 32) × PriceFits x.order.limit × PriceFits x.order.guarantee.price
-CallFits room (call.Respond x) = (x.time < 2 ^ 64) × (x.member < 2 ^ 8) × (x.own < 2 ^ 8) × (x.size < 2 ^ 32) × PriceFits x.price
-CallFits room (call.Change x) = (x.time < 2 ^ 64) × (x.member < 2 ^ 8) × (x.own < 2 ^ 8) × (x.size < 2 ^ 32) × PriceFits x.price
-CallFits room (call.Withdraw x) = (x.time < 2 ^ 64) × (x.member < 2 ^ 8) × (x.own < 2 ^ 8)
+CallFits room (call.Respond x) = (x.time < 2 ^ 64) × (x.member < 2 ^ 8) × (x.own_number < 2 ^ 8) × (x.size < 2 ^ 32) × PriceFits x.price
+CallFits room (call.Change x) = (x.time < 2 ^ 64) × (x.member < 2 ^ 8) × (x.own_number < 2 ^ 8) × (x.size < 2 ^ 32) × PriceFits x.price
+CallFits room (call.Withdraw x) = (x.time < 2 ^ 64) × (x.member < 2 ^ 8) × (x.own_number < 2 ^ 8)
 CallFits room (call.Tick time tick) = (time < 2 ^ 64) × TickFits tick
 CallFits room (call.Halt time) = time < 2 ^ 64
 CallFits room (call.Resume time) = time < 2 ^ 64

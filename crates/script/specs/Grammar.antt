@@ -1,11 +1,9 @@
 -- The statements of a script, one clause for each form: in capitals what is a number, and between bars what is one of two
 -- words. The first place from the left where a line says something else is told.
+use Rattle.market.specs.Cube.{CubeTick}
 use Rattle.std.specs.Prelude.{ℕ, List, [], ◌∷◌, codes, if◌then◌else◌, Option, Some, None, Result, Ok, Err}
 use Rattle.std.specs.Str.{bytes_eq}
 use Rattle.market.specs.declared.better_of.Half.TheVariants.{Left, Right}
-use Rattle.market.specs.declared.better_of.Half.{Half}
-use Rattle.market.specs.declared.leg.LegTick.{LegTick}
-use Rattle.market.specs.declared.quote.Quote.{Quote}
 use Rattle.script.specs.declared.misread.Expected.TheVariants as expected
 use Rattle.script.specs.declared.misread.Misread.{Misread}
 use Rattle.script.specs.declared.misread.Misread.TheVariants.{Unknown, Surplus}
@@ -19,14 +17,14 @@ use Rattle.script.specs.declared.statement.Setting.TheVariants as setting
 use Rattle.script.specs.declared.statement.Statement.TheVariants.{Setting, Call, Range}
 use Rattle.script.specs.declared.statement.Statement.{Statement}
 use Rattle.script.specs.Parts.{side_named, ranking_named, source_named, half_named, guarantee_named, kind_named, class_named, at_named, book_price_named}
-use Rattle.script.specs.Readers.{Word, Reader, ◌>>=◌, give, give_up, a_number, optional_number, a_price, one_of}
+use Rattle.script.specs.Readers.{Word, Reader, ◌>>=◌, give, give_up, a_number, exact_number, optional_number, a_price, one_of}
 use Rattle.script.specs.Words.{line_words}
 use Rattle.session.specs.declared.call.Call.TheVariants as call
 
 -- room NUMBER
 unfoldable pub room : Reader Statement
 room = do
-  number ← a_number 32 expected.RoomNumber
+  number ← exact_number expected.RoomNumber
   give (Setting (setting.Room number))
 
 -- leg buy|sell RATIO
@@ -48,7 +46,7 @@ interval_of source.Fixed = do
   milliseconds ← a_number 32 expected.Milliseconds
   give (terms.Fixed milliseconds)
 interval_of source.Drawn = do
-  seed ← a_number 32 expected.Seed
+  seed ← exact_number expected.Seed
   give (terms.Drawn seed)
 
 -- interval fixed MILLISECONDS, interval drawn SEED
@@ -59,7 +57,7 @@ interval = do
   give (Setting (setting.Interval terms))
 
 -- LEG BID OFFER for a leg, and for the book BID|none OFFER|none
-abbrev pub tick_of : HalfName → Reader (Half Quote LegTick)
+abbrev pub tick_of : HalfName → Reader CubeTick
 tick_of half.Leg = do
   leg ← a_number 32 expected.Leg
   bid ← a_price expected.Bid
@@ -96,33 +94,33 @@ unfoldable pub respond : Reader Statement
 respond = do
   time ← a_number 64 expected.Time
   member ← a_number 8 expected.Member
-  own ← a_number 8 expected.OwnNumber
+  own_number ← a_number 8 expected.OwnNumber
   side ← one_of side_named expected.Side
   kind ← one_of kind_named expected.Kind
   class ← one_of class_named expected.Class
   size ← a_number 32 expected.Size
   at ← one_of at_named expected.At
   price ← a_price expected.Price
-  give (Call (call.Respond (record { time = time; member = member; own = own; side = side; kind = kind; class = class; size = size; price = price })))
+  give (Call (call.Respond (record { time = time; member = member; own_number = own_number; side = side; kind = kind; class = class; size = size; price = price })))
 
 -- change TIME MEMBER OWN SIZE @ PRICE
 unfoldable pub change : Reader Statement
 change = do
   time ← a_number 64 expected.Time
   member ← a_number 8 expected.Member
-  own ← a_number 8 expected.OwnNumber
+  own_number ← a_number 8 expected.OwnNumber
   size ← a_number 32 expected.Size
   at ← one_of at_named expected.At
   price ← a_price expected.Price
-  give (Call (call.Change (record { time = time; member = member; own = own; size = size; price = price })))
+  give (Call (call.Change (record { time = time; member = member; own_number = own_number; size = size; price = price })))
 
 -- withdraw TIME MEMBER OWN
 unfoldable pub withdraw : Reader Statement
 withdraw = do
   time ← a_number 64 expected.Time
   member ← a_number 8 expected.Member
-  own ← a_number 8 expected.OwnNumber
-  give (Call (call.Withdraw (record { time = time; member = member; own = own })))
+  own_number ← a_number 8 expected.OwnNumber
+  give (Call (call.Withdraw (record { time = time; member = member; own_number = own_number })))
 
 -- halt TIME
 unfoldable pub halt : Reader Statement

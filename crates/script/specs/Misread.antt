@@ -3,7 +3,10 @@ use Rattle.std.specs.Prelude.{ℕ, List, ◌++◌, codes}
 use Rattle.script.specs.declared.misread.Expected.{Expected}
 use Rattle.script.specs.declared.misread.Expected.TheVariants as expected
 use Rattle.script.specs.declared.misread.Misread.{Misread}
-use Rattle.script.specs.declared.misread.Misread.TheVariants.{Missing, Unknown, Negative, Surplus}
+use Rattle.script.specs.declared.misread.Misread.TheVariants.{Missing, Unknown, Negative, TooLarge, Surplus}
+use Rattle.std.specs.Fmt.{decimal}
+use Rattle.script.specs.declared.setup.wanting.NoRoom.{NoRoom}
+use Rattle.script.specs.declared.setup.wanting.NoRoom.TheVariants.{Needs, SeeLine}
 use Rattle.script.specs.declared.setup.wanting.Wanting.{Wanting}
 use Rattle.script.specs.declared.setup.wanting.Wanting.TheVariants as wanting
 use Rattle.script.specs.declared.transcript.not_understood.NotUnderstood.{NotUnderstood}
@@ -43,6 +46,7 @@ abbrev pub misread_text : Misread → List ℕ
 misread_text (Missing what) = codes "the line ends where " ++ (expected_text what ++ codes " is expected")
 misread_text (Unknown what) = expected_text what ++ codes " is expected, and something else stands there"
 misread_text (Negative what) = expected_text what ++ codes " is expected, with no minus"
+misread_text (TooLarge what) = expected_text what ++ codes " is expected, of at most 4294967295"
 misread_text Surplus = codes "the line's end is expected, and words follow"
 
 -- The first thing that the room is wanting.
@@ -52,8 +56,13 @@ wanting_text wanting.Legs = codes "the room has no two legs yet"
 wanting_text wanting.Ranking = codes "the room has no ranking yet"
 wanting_text wanting.Interval = codes "the room has no interval yet"
 
+-- Why there is no room for a line: the first thing that it is wanting, or the line that was told this.
+abbrev pub no_room_text : NoRoom → List ℕ
+no_room_text (Needs e) = wanting_text e
+no_room_text (SeeLine n) = codes "there is no room yet, see line " ++ decimal n
+
 -- What stands behind `not understood: `.
 abbrev pub not_understood_text : NotUnderstood → List ℕ
 not_understood_text (why.Misread e) = misread_text e
 not_understood_text why.AfterFirstCall = codes "a setting comes before the first call"
-not_understood_text (why.Wanting e) = wanting_text e
+not_understood_text (why.NoRoom e) = no_room_text e

@@ -1,10 +1,10 @@
 -- Readers: what the words that are left say first, and the words behind that; or why they say nothing.
-use Rattle.std.specs.Prelude.{ℕ, ◌-◌, ◌^◌, ℤ, Bool, false, min, List, [], ◌∷◌, cond, ◌==◌, Option, Some, None, Result, Ok, Err}
+use Rattle.std.specs.Prelude.{ℕ, ◌-◌, ◌^◌, ℤ, Bool, false, min, nat_lt, List, [], ◌∷◌, cond, ◌==◌, Option, Some, None, Result, Ok, Err}
 use Rattle.std.specs.Option.{option_map}
 use Rattle.script.specs.Number.{number_in, price_in}
 use Rattle.script.specs.declared.misread.Expected.{Expected}
 use Rattle.script.specs.declared.misread.Misread.{Misread}
-use Rattle.script.specs.declared.misread.Misread.TheVariants.{Missing, Unknown, Negative}
+use Rattle.script.specs.declared.misread.Misread.TheVariants.{Missing, Unknown, Negative, TooLarge}
 
 -- A word is its bytes.
 abbrev pub Word : Type 0
@@ -71,6 +71,15 @@ number_up_to most what = do
 -- A number; one that so many bits do not hold is taken as the most that they hold.
 abbrev pub a_number : ℕ → Expected → Reader ℕ
 a_number bits what = number_up_to (2 ^ bits - 1) what
+
+-- A number that has to be what is written: one that 32 bits do not hold is not understood.
+abbrev pub in_32_bits : Expected → ℕ → Result ℕ Misread
+in_32_bits what n = cond (nat_lt n (2 ^ 32)) (Ok n) (Err (TooLarge what))
+
+abbrev pub exact_number : Expected → Reader ℕ
+exact_number what = do
+  n ← a_number 64 what
+  with_rest (in_32_bits what n)
 
 -- A number, or what is taken in its place where no word is left.
 abbrev pub optional_number : ℕ → Expected → ℕ → Reader ℕ

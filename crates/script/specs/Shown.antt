@@ -2,7 +2,7 @@
 use Rattle.std.specs.Prelude.{ℕ, Option, None}
 use Rattle.script.specs.declared.statement.Statement.{Statement}
 use Rattle.script.specs.declared.statement.Statement.TheVariants.{Setting, Call, Range}
-use Rattle.script.specs.Told.{CubeFaultTold}
+use Rattle.market.specs.Cube.{CubeFaultTold}
 use Rattle.session.specs.Runs.{Answer}
 use Rattle.session.specs.Learning.{shown_of}
 

@@ -4,10 +4,8 @@ use Rattle.std.specs.Fmt.{decimal, signed_decimal}
 use Rattle.allocation.specs.Response.{class_name}
 use Rattle.allocation.specs.declared.order.GuaranteeKind.{GuaranteeKind}
 use Rattle.allocation.specs.declared.order.GuaranteeKind.TheVariants.{SingleStop, AutoMatchLimit}
-use Rattle.market.specs.declared.better_of.Half.{Half}
 use Rattle.market.specs.declared.better_of.Half.TheVariants.{Left, Right}
-use Rattle.market.specs.declared.leg.LegTick.{LegTick}
-use Rattle.market.specs.declared.quote.Quote.{Quote}
+use Rattle.market.specs.Cube.{CubeTick}
 use Rattle.market.specs.Side.{side_name}
 use Rattle.room.specs.declared.requests.OpeningRequest.{OpeningRequest}
 use Rattle.room.specs.declared.requests.ResponseRequest.{ResponseRequest}
@@ -25,10 +23,10 @@ use Rattle.session.specs.declared.call.Call.{Call}
 use Rattle.session.specs.declared.call.Call.TheVariants as call
 
 -- Words with a blank between two.
-abbrev pub spaced : List Word → List ℕ
-spaced [] = []
-spaced (w ∷ []) = w
-spaced (w ∷ v ∷ ws) = w ++ (32 ∷ spaced (v ∷ ws))
+abbrev pub with_blanks : List Word → List ℕ
+with_blanks [] = []
+with_blanks (w ∷ []) = w
+with_blanks (w ∷ v ∷ ws) = w ++ (32 ∷ with_blanks (v ∷ ws))
 
 abbrev pub ranking_name : ChosenRanking → Word
 ranking_name Arrival = codes "arrival"
@@ -52,7 +50,7 @@ setting_words (setting.Leg x) = codes "leg" ∷ side_name x.side ∷ decimal x.r
 setting_words (setting.Ranking r) = codes "ranking" ∷ ranking_name r ∷ []
 setting_words (setting.Interval x) = codes "interval" ∷ interval_words x
 
-abbrev pub tick_words : Half Quote LegTick → List Word
+abbrev pub tick_words : CubeTick → List Word
 tick_words (Left q) = codes "book" ∷ book_price_word q.bid ∷ book_price_word q.offer ∷ []
 tick_words (Right t) = codes "leg" ∷ decimal t.leg ∷ signed_decimal t.quote.bid ∷ signed_decimal t.quote.offer ∷ []
 
@@ -62,14 +60,14 @@ opening_words x = decimal x.time ∷ decimal x.member ∷ side_name x.order.side
 
 -- What stands behind `respond`.
 abbrev pub response_words : ResponseRequest → List Word
-response_words x = decimal x.time ∷ decimal x.member ∷ decimal x.own ∷ side_name x.side ∷ kind_text x.kind ∷ class_name x.class ∷ decimal x.size ∷ codes "@" ∷ signed_decimal x.price ∷ []
+response_words x = decimal x.time ∷ decimal x.member ∷ decimal x.own_number ∷ side_name x.side ∷ kind_text x.kind ∷ class_name x.class ∷ decimal x.size ∷ codes "@" ∷ signed_decimal x.price ∷ []
 
 -- A collecting names its auction alone, since a script has one room.
-abbrev pub call_words : Call (Half Quote LegTick) → List Word
+abbrev pub call_words : Call CubeTick → List Word
 call_words (call.Open x) = codes "open" ∷ opening_words x
 call_words (call.Respond x) = codes "respond" ∷ response_words x
-call_words (call.Change x) = codes "change" ∷ decimal x.time ∷ decimal x.member ∷ decimal x.own ∷ decimal x.size ∷ codes "@" ∷ signed_decimal x.price ∷ []
-call_words (call.Withdraw x) = codes "withdraw" ∷ decimal x.time ∷ decimal x.member ∷ decimal x.own ∷ []
+call_words (call.Change x) = codes "change" ∷ decimal x.time ∷ decimal x.member ∷ decimal x.own_number ∷ decimal x.size ∷ codes "@" ∷ signed_decimal x.price ∷ []
+call_words (call.Withdraw x) = codes "withdraw" ∷ decimal x.time ∷ decimal x.member ∷ decimal x.own_number ∷ []
 call_words (call.Tick time tick) = codes "tick" ∷ decimal time ∷ tick_words tick
 call_words (call.Halt time) = codes "halt" ∷ decimal time ∷ []
 call_words (call.Resume time) = codes "resume" ∷ decimal time ∷ []
@@ -83,4 +81,4 @@ statement_words (statement.Call c) = call_words c
 statement_words (statement.Range q) = codes "range" ∷ side_name q.side ∷ signed_decimal q.limit ∷ []
 
 abbrev pub statement_text : Statement → List ℕ
-statement_text s = spaced (statement_words s)
+statement_text s = with_blanks (statement_words s)

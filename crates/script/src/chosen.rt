@@ -1,5 +1,5 @@
-// A ranking and an interval source that are chosen while the program runs. Each is one of those that are built, so a room over
-// them needs no code of its own.
+// A ranking and an interval source that are chosen while the program runs. Each is one of those that are
+// built, so a room over them needs no code of its own.
 ghost use Rattle.std.specs.Prelude.{◌≡◌};
 ghost use Rattle.script.specs.Chosen.{chosen_ahead, chosen_meaning, interval_made, interval_result};
 ghost use Rattle.script.specs.declared.chosen.ChosenInterval.{ChosenInterval};
@@ -13,10 +13,12 @@ use interval::refusal::IntervalRefusal;
 use interval::source::IntervalSource;
 use interval::stepping::SteppingInterval;
 
-// The earlier arrival, or the larger stored size.
+/// The earlier arrival, or the larger stored size.
 #[derive(Clone, Copy, PartialEq, Eq, Debug)]
 pub enum ChosenRanking {
+    /// The earlier arrival.
     Arrival,
+    /// The larger stored size, and of equal ones the earlier arrival.
     Size,
 }
 
@@ -37,7 +39,7 @@ impl Ranking for ChosenRanking {
     }
 }
 
-// A source of a fixed length, or one that steps a seed.
+/// A source of a fixed length, or one that steps a seed.
 #[derive(Clone, Copy)]
 pub enum ChosenInterval {
     Fixed(FixedInterval),
@@ -45,7 +47,7 @@ pub enum ChosenInterval {
 }
 
 impl ChosenInterval {
-    // The source of these terms. A fixed length outside its limits is refused.
+    /// The source of these terms. A fixed length outside its limits is refused.
     pub fn new(terms: IntervalTerms) -> Result<ChosenInterval, IntervalRefusal>
         ensures { interval_result result ≡ interval_made terms }
     {

@@ -15,13 +15,14 @@ use allocation::cause::EndCause;
 use market::fault::Cause;
 use std::fmt;
 
-// What a refusal's number means, if a script can be answered it.
+/// What a refusal's number means, if a script can be answered it.
 pub fn refusal_meaning(number: u8) -> Option<&'static str>
     ensures those { is_some result ≡ is_refusal_number number }
     ensures of_rooms { (e : Refusal (Half Fault Fault)) → number ≡ refusal_number e → is_some result ≡ true }
     ensures of_ranges { (e : RangeRefusal) → number ≡ range_number e → is_some result ≡ true }
     ensures of_legs { (e : SetupRefusal) → number ≡ setup_number e → is_some result ≡ true }
-    ensures of_intervals { (e : IntervalRefusal) → number ≡ interval_refusal_number e → is_some result ≡ true }
+    ensures of_intervals { (e : IntervalRefusal) → number ≡ interval_refusal_number e → is_some result
+        ≡ true }
 {
     match number {
         1 => Some("the time is over 4,000,000,000,000"),
@@ -97,7 +98,7 @@ fn fault_meaning(cause: Cause) -> &'static str {
     }
 }
 
-// The table of all of them, one a line.
+/// The table of all of them, one a line.
 #[derive(Clone, Copy)]
 pub struct Explanation;
 

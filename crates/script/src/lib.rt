@@ -3,6 +3,7 @@
 
 pub mod chosen;
 pub mod explain;
+pub mod hint;
 pub mod misread;
 mod number;
 pub mod read;

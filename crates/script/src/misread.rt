@@ -4,7 +4,7 @@ ghost use Rattle.script.specs.Misread.{expected_text, misread_text};
 
 use std::fmt;
 
-// What a line is to have at a place.
+/// What a line is to have at a place.
 #[derive(Clone, Copy, PartialEq, Eq, Debug)]
 pub enum Expected {
     Statement,
@@ -35,16 +35,18 @@ pub enum Expected {
     Rows,
 }
 
-// What is wrong with a line, at the first place from the left where something is.
+/// What is wrong with a line, at the first place from the left where something is.
 #[derive(Clone, Copy, PartialEq, Eq, Debug)]
 pub enum Misread {
-    // The line ends where more is expected.
+    /// The line ends where more is expected.
     Missing(Expected),
-    // Another word stands there.
+    /// Another word stands there.
     Unknown(Expected),
-    // A minus stands before a number that may have none.
+    /// A minus stands before a number that may have none.
     Negative(Expected),
-    // The statement is whole, and words follow.
+    /// A number stands there that has to be what is written, and is above 4,294,967,295.
+    TooLarge(Expected),
+    /// The statement is whole, and words follow.
     Surplus,
 }
 
@@ -96,6 +98,7 @@ impl fmt::Display for Misread {
                 "{what} is expected, and something else stands there"
             ),
             Misread::Negative(what) => write!(f, "{what} is expected, with no minus"),
+            Misread::TooLarge(what) => write!(f, "{what} is expected, of at most 4294967295"),
             Misread::Surplus => write!(f, "the line's end is expected, and words follow"),
         }
     }

@@ -3,8 +3,8 @@ ghost use Rattle.std.specs.Prelude.{◌≡◌, ℕ, min};
 ghost use Rattle.std.specs.Option.{option_map};
 ghost use Rattle.script.specs.Number.{number_in, price_in};
 
-// The number that digits write, or the most that is asked for, whichever is less; none unless there is a digit and nothing
-// else.
+/// The number that digits write, or the most that is asked for, whichever is less; none unless there is a
+/// digit and nothing else.
 pub(crate) fn number_in(digits: &[u8], most: u64) -> Option<u64>
     ensures { result ≡ option_map (min most) (number_in digits.now) }
 {
@@ -24,7 +24,7 @@ pub(crate) fn number_in(digits: &[u8], most: u64) -> Option<u64>
     Some(value)
 }
 
-// A price, with or without a minus.
+/// A price, with or without a minus.
 pub(crate) fn price_in(word: &str) -> Option<i64>
     ensures { result ≡ price_in word.now }
 {

@@ -3,7 +3,7 @@ ghost use Rattle.std.specs.Prelude.{◌≡◌, cond, Some, None};
 ghost use Rattle.session.specs.Runs.{Answer};
 ghost use Rattle.session.specs.Learning.{shown_of};
 ghost use Rattle.script.specs.Shown.{answer_shown};
-ghost use Rattle.script.specs.Told.{CubeFaultTold};
+ghost use Rattle.market.specs.Cube.{CubeFaultTold};
 
 use crate::statement::Statement;
 use market::cube::CubeTick;
@@ -23,7 +23,8 @@ pub fn is_shown_to(call: &Call<CubeTick>, member: u8) -> bool
 }
 
 impl Statement {
-    /// Whether a member is shown what the statement is answered. Settings and questions for ranges are no calls.
+    /// Whether a member is shown what the statement is answered. Settings and questions for ranges are no
+    /// calls.
     pub fn is_shown_to(&self, member: u8) -> bool
         ensures { (a : Answer CubeFaultTold) → answer_shown member self.now a ≡ cond result (Some a) None }
     {

@@ -5,10 +5,14 @@ ghost use Rattle.script.specs.Words.{words_in, is_blank, is_comment, line_words}
 
 use std::marker::Model;
 
-// The words that are left of a line.
+/// The words that are left of a line. What was taken of it is kept for whoever asks where the reading
+/// stopped.
 #[derive(Drop)]
 pub(crate) struct Words<'a> {
     rest: &'a str,
+    line: &'a str,
+    last: &'a str,
+    behind_last: usize,
 }
 
 impl<'a> Model for Words<'a> {
@@ -21,6 +25,11 @@ fn is_blank(byte: u8) -> bool
     ensures { result ≡ is_blank byte }
 {
     byte == b' ' || byte == b'\t'
+}
+
+// In UTF-8 the bytes of a character behind its first have 10 as their highest bits.
+fn begins_character(byte: &u8) -> bool {
+    byte & 0b1100_0000 != 0b1000_0000
 }
 
 fn is_comment(byte: u8) -> bool
@@ -58,16 +67,20 @@ fn past_blanks(text: &str) -> &str
 }
 
 impl<'a> Words<'a> {
-    // The words before the comment.
+    /// The words before the comment.
     pub(crate) fn of(line: &'a str) -> Words<'a>
         ensures { result ≡ line_words line.now }
     {
+        let line = line.split_at(length_before_comment(line)).0;
         Words {
-            rest: line.split_at(length_before_comment(line)).0,
+            rest: line,
+            line,
+            last: "",
+            behind_last: line.len(),
         }
     }
 
-    // Takes the next word, if there is one.
+    /// Takes the next word, if there is one.
     pub(crate) fn next(&mut self) -> Option<&'a str>
         ensures { MatchOption result ((self.old ≡ []) × (self.new ≡ [])) (λ w. self.old ≡ w.now ∷ self.new) }
     {
@@ -77,6 +90,34 @@ impl<'a> Words<'a> {
         if word.is_empty() {
             return None;
         }
+        self.last = word;
+        self.behind_last = rest.len();
         Some(word)
+    }
+
+    /// The word that was taken last; none is empty.
+    pub(crate) fn last_word(&self) -> &'a str {
+        self.last
+    }
+
+    /// The column, counted from 1 in characters, at which the word that was taken last begins.
+    pub(crate) fn last_column(&self) -> usize {
+        self.column_at(self.length_to_last().saturating_sub(self.last.len()))
+    }
+
+    /// The column behind that word.
+    pub(crate) fn column_behind_last(&self) -> usize {
+        self.column_at(self.length_to_last())
+    }
+
+    // How many bytes stand before the end of the word that was taken last.
+    fn length_to_last(&self) -> usize {
+        self.line.len().saturating_sub(self.behind_last)
+    }
+
+    // The column of a byte: a character has one byte that goes on with no other.
+    fn column_at(&self, byte: usize) -> usize {
+        let before = self.line.bytes().take(byte).filter(begins_character);
+        before.count().saturating_add(1)
     }
 }

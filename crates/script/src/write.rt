@@ -3,7 +3,7 @@ ghost use Rattle.std.specs.Prelude.{◌≡◌, ℕ, Some, Ok};
 ghost use Rattle.script.specs.declared.statement.Statement.{Statement};
 ghost use Rattle.script.specs.Grammar.{statement_in};
 ghost use Rattle.script.specs.Fits.{StatementFits};
-ghost use Rattle.script.specs.Write.{spaced, ranking_name, guarantee_name, book_price_word, interval_words, setting_words, tick_words, opening_words, response_words, call_words, statement_text};
+ghost use Rattle.script.specs.Write.{with_blanks, ranking_name, guarantee_name, book_price_word, interval_words, setting_words, tick_words, opening_words, response_words, call_words, statement_text};
 
 use crate::chosen::ChosenRanking;
 use crate::statement::{IntervalTerms, RangeQuestion, Setting, Statement};
@@ -57,7 +57,7 @@ impl fmt::Display for BookPrice {
 }
 
 impl fmt::Display for IntervalTerms {
-    ghost output = { λ x. Some (spaced (interval_words x)) };
+    ghost output = { λ x. Some (with_blanks (interval_words x)) };
 
     fn fmt<W: fmt::Write>(&self, f: &mut fmt::Formatter<W>) -> fmt::Result {
         match *self {
@@ -68,7 +68,7 @@ impl fmt::Display for IntervalTerms {
 }
 
 impl fmt::Display for Setting {
-    ghost output = { λ x. Some (spaced (setting_words x)) };
+    ghost output = { λ x. Some (with_blanks (setting_words x)) };
 
     fn fmt<W: fmt::Write>(&self, f: &mut fmt::Formatter<W>) -> fmt::Result {
         match *self {
@@ -89,7 +89,7 @@ impl fmt::Display for Setting {
 struct TickText<'a>(&'a CubeTick);
 
 impl fmt::Display for TickText<'_> {
-    ghost output = { λ x. Some (spaced (tick_words x.0.now)) };
+    ghost output = { λ x. Some (with_blanks (tick_words x.0.now)) };
 
     fn fmt<W: fmt::Write>(&self, f: &mut fmt::Formatter<W>) -> fmt::Result {
         match self.0 {
@@ -113,7 +113,7 @@ impl fmt::Display for TickText<'_> {
 struct OpeningText(OpeningRequest);
 
 impl fmt::Display for OpeningText {
-    ghost output = { λ x. Some (spaced (opening_words x.0)) };
+    ghost output = { λ x. Some (with_blanks (opening_words x.0)) };
 
     fn fmt<W: fmt::Write>(&self, f: &mut fmt::Formatter<W>) -> fmt::Result {
         let OpeningRequest {
@@ -138,13 +138,13 @@ impl fmt::Display for OpeningText {
 struct ResponseText(ResponseRequest);
 
 impl fmt::Display for ResponseText {
-    ghost output = { λ x. Some (spaced (response_words x.0)) };
+    ghost output = { λ x. Some (with_blanks (response_words x.0)) };
 
     fn fmt<W: fmt::Write>(&self, f: &mut fmt::Formatter<W>) -> fmt::Result {
         let ResponseRequest {
             time,
             member,
-            own,
+            own_number,
             side,
             kind,
             class,
@@ -154,7 +154,7 @@ impl fmt::Display for ResponseText {
         let kind = KindText(kind);
         write!(
             f,
-            "{time} {member} {own} {side} {kind} {class} {size} @ {price}"
+            "{time} {member} {own_number} {side} {kind} {class} {size} @ {price}"
         )
     }
 }
@@ -164,7 +164,7 @@ impl fmt::Display for ResponseText {
 struct CallText<'a>(&'a Call<CubeTick>);
 
 impl fmt::Display for CallText<'_> {
-    ghost output = { λ x. Some (spaced (call_words x.0.now)) };
+    ghost output = { λ x. Some (with_blanks (call_words x.0.now)) };
 
     fn fmt<W: fmt::Write>(&self, f: &mut fmt::Formatter<W>) -> fmt::Result {
         match self.0 {
@@ -180,15 +180,19 @@ impl fmt::Display for CallText<'_> {
                 let ChangeRequest {
                     time,
                     member,
-                    own,
+                    own_number,
                     size,
                     price,
                 } = *request;
-                write!(f, "change {time} {member} {own} {size} @ {price}")
+                write!(f, "change {time} {member} {own_number} {size} @ {price}")
             }
             Call::Withdraw(request) => {
-                let WithdrawRequest { time, member, own } = *request;
-                write!(f, "withdraw {time} {member} {own}")
+                let WithdrawRequest {
+                    time,
+                    member,
+                    own_number,
+                } = *request;
+                write!(f, "withdraw {time} {member} {own_number}")
             }
             Call::Tick { time, tick } => {
                 let tick = TickText(tick);
@@ -226,5 +230,6 @@ impl fmt::Display for Statement {
 
 /// Each statement, written and read in the script of its room, is the statement again. It computes nothing.
 pub fn statements_read_again()
-    ensures { (room : ℕ) (s : Statement) → StatementFits room s → statement_in room (statement_text s) ≡ Ok (Some s) }
+    ensures { (room : ℕ) (s : Statement) → StatementFits room s → statement_in room (statement_text s)
+        ≡ Ok (Some s) }
 {}

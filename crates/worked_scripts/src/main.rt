@@ -1,4 +1,5 @@
-// The example scripts, each carried out by the library and held to the transcript that was worked out by hand.
+// The example scripts, each carried out by the library and held to the transcript that was worked out by
+// hand.
 #![tactic(auto)]
 
 mod example;

@@ -46,6 +46,7 @@ impl<'a> Words<'a> {
         }
     }
 
+    /// `tick TIME leg LEG BID OFFER`, `tick TIME book BID|none OFFER|none`
     #[tactic(auto, unfolding(crate::specs::Grammar::tick))]
     pub(crate) fn tick(&mut self) -> Result<Statement, Misread>
         ensures { with_rest result self.new ≡ tick self.old }
@@ -56,6 +57,7 @@ impl<'a> Words<'a> {
         Ok(Statement::Call(Call::Tick { time, tick }))
     }
 
+    /// `open TIME MEMBER buy|sell SIZE @ LIMIT stop|match PRICE`
     #[tactic(auto, unfolding(crate::specs::Grammar::open_auction))]
     pub(crate) fn open_auction(&mut self) -> Result<Statement, Misread>
         ensures { with_rest result self.new ≡ open_auction self.old }
@@ -82,13 +84,14 @@ impl<'a> Words<'a> {
         })))
     }
 
+    /// `respond TIME MEMBER OWN buy|sell sealed|plain customer|other SIZE @ PRICE`
     #[tactic(auto, unfolding(crate::specs::Grammar::respond))]
     pub(crate) fn respond(&mut self) -> Result<Statement, Misread>
         ensures { with_rest result self.new ≡ respond self.old }
     {
         let time = self.time()?;
         let member = self.u8(Expected::Member)?;
-        let own = self.u8(Expected::OwnNumber)?;
+        let own_number = self.u8(Expected::OwnNumber)?;
         let side: Side = self.one_of(Expected::Side)?;
         let kind: Kind = self.one_of(Expected::Kind)?;
         let class: Class = self.one_of(Expected::Class)?;
@@ -98,7 +101,7 @@ impl<'a> Words<'a> {
         Ok(Statement::Call(Call::Respond(ResponseRequest {
             time,
             member,
-            own,
+            own_number,
             side,
             kind,
             class,
@@ -107,35 +110,42 @@ impl<'a> Words<'a> {
         })))
     }
 
+    /// `change TIME MEMBER OWN SIZE @ PRICE`
     #[tactic(auto, unfolding(crate::specs::Grammar::change))]
     pub(crate) fn change(&mut self) -> Result<Statement, Misread>
         ensures { with_rest result self.new ≡ change self.old }
     {
         let time = self.time()?;
         let member = self.u8(Expected::Member)?;
-        let own = self.u8(Expected::OwnNumber)?;
+        let own_number = self.u8(Expected::OwnNumber)?;
         let size = self.u32(Expected::Size)?;
         self.at()?;
         let price = self.price(Expected::Price)?;
         Ok(Statement::Call(Call::Change(ChangeRequest {
             time,
             member,
-            own,
+            own_number,
             size,
             price,
         })))
     }
 
+    /// `withdraw TIME MEMBER OWN`
     #[tactic(auto, unfolding(crate::specs::Grammar::withdraw))]
     pub(crate) fn withdraw(&mut self) -> Result<Statement, Misread>
         ensures { with_rest result self.new ≡ withdraw self.old }
     {
         let time = self.time()?;
         let member = self.u8(Expected::Member)?;
-        let own = self.u8(Expected::OwnNumber)?;
-        Ok(Statement::Call(Call::Withdraw(WithdrawRequest { time, member, own })))
+        let own_number = self.u8(Expected::OwnNumber)?;
+        Ok(Statement::Call(Call::Withdraw(WithdrawRequest {
+            time,
+            member,
+            own_number,
+        })))
     }
 
+    /// `halt TIME`
     #[tactic(auto, unfolding(crate::specs::Grammar::halt))]
     pub(crate) fn halt(&mut self) -> Result<Statement, Misread>
         ensures { with_rest result self.new ≡ halt self.old }
@@ -144,6 +154,7 @@ impl<'a> Words<'a> {
         Ok(Statement::Call(Call::Halt { time }))
     }
 
+    /// `resume TIME`
     #[tactic(auto, unfolding(crate::specs::Grammar::resume))]
     pub(crate) fn resume(&mut self) -> Result<Statement, Misread>
         ensures { with_rest result self.new ≡ resume self.old }
@@ -152,6 +163,7 @@ impl<'a> Words<'a> {
         Ok(Statement::Call(Call::Resume { time }))
     }
 
+    /// `clock TIME`
     #[tactic(auto, unfolding(crate::specs::Grammar::clock))]
     pub(crate) fn clock(&mut self) -> Result<Statement, Misread>
         ensures { with_rest result self.new ≡ clock self.old }
@@ -160,7 +172,8 @@ impl<'a> Words<'a> {
         Ok(Statement::Call(Call::Clock { time }))
     }
 
-    // The claim is one of the script's room, which has this number.
+    /// `collect AUCTION`, `collect AUCTION ROWS`. The claim is one of the script's room, which has this
+    /// number.
     #[tactic(auto, unfolding(crate::specs::Grammar::collect))]
     pub(crate) fn collect(&mut self, room: u32) -> Result<Statement, Misread>
         ensures { with_rest result self.new ≡ collect room self.old }

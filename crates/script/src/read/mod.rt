@@ -1,7 +1,7 @@
 // Reading a line of a script.
 ghost use Rattle.std.specs.Prelude.{◌≡◌};
 ghost use Rattle.script.specs.Readers.{with_rest};
-ghost use Rattle.script.specs.Grammar.{range, statement_after, statement_in};
+ghost use Rattle.script.specs.Grammar.{range, statement_after, statement_in, statement_of};
 
 use crate::misread::{Expected, Misread};
 use crate::statement::{RangeQuestion, Statement};
@@ -48,20 +48,63 @@ impl<'a> Words<'a> {
             _ => Err(Misread::Unknown(Expected::Statement)),
         }
     }
+
+    // What all words say: a statement, or nothing where there are none.
+    fn statement(&mut self, room: u32) -> Result<Option<Statement>, Misread>
+        ensures { result ≡ statement_of room self.old }
+    {
+        let Some(first) = self.next() else {
+            return Ok(None);
+        };
+        let statement = self.statement_after(room, first)?;
+        match self.next() {
+            None => Ok(Some(statement)),
+            Some(_) => Err(Misread::Surplus),
+        }
+    }
 }
 
-/// What a line says, without its line end, in a script of the room of this number: a statement, or nothing where it is blank or
-/// a comment. Where it is neither, the first place from the left that is wrong is told.
+/// What a line says, without its line end, in a script of the room of this number: a statement, or nothing
+/// where it is blank or a comment. Where it is neither, the first place from the left that is wrong is
+/// told.
 pub fn read_statement(room: u32, line: &str) -> Result<Option<Statement>, Misread>
     ensures { result ≡ statement_in room line.now }
 {
+    Words::of(line).statement(room)
+}
+
+/// Where a line is wrong: a column, counted from 1 in characters, and the word that begins there. There is
+/// no word where the line ends too soon, and where all of the line is wrong though it is a statement.
+#[derive(Clone, Copy)]
+pub struct Stop<'a> {
+    /// The column, counted from 1.
+    pub column: usize,
+    /// The word that begins there.
+    pub word: Option<&'a str>,
+}
+
+// The first word of a line.
+fn start_of(line: &str) -> usize {
     let mut words = Words::of(line);
-    let Some(first) = words.next() else {
-        return Ok(None);
-    };
-    let statement = words.statement_after(room, first)?;
-    match words.next() {
-        None => Ok(Some(statement)),
-        Some(_) => Err(Misread::Surplus),
+    let _first = words.next();
+    words.last_column()
+}
+
+/// Where the reading of a line stops. A statement is wrong from its first word on.
+pub fn stop_in(line: &str) -> Stop<'_> {
+    let mut words = Words::of(line);
+    match words.statement(0) {
+        Err(Misread::Missing(_)) => Stop {
+            column: words.column_behind_last(),
+            word: None,
+        },
+        Err(_) => Stop {
+            column: words.last_column(),
+            word: Some(words.last_word()),
+        },
+        Ok(_) => Stop {
+            column: start_of(line),
+            word: None,
+        },
     }
 }

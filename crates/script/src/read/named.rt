@@ -7,21 +7,21 @@ use allocation::order::GuaranteeKind;
 use allocation::response::{Class, Kind};
 use market::side::Side;
 
-// Which half of the market a tick is for.
+/// Which half of the market a tick is for.
 #[derive(Clone, Copy)]
 pub(crate) enum HalfName {
     Book,
     Leg,
 }
 
-// Which kind of interval source is asked for.
+/// Which kind of interval source is asked for.
 #[derive(Clone, Copy)]
 pub(crate) enum SourceName {
     Fixed,
     Drawn,
 }
 
-// A value for which one of a few words stands.
+/// A value for which one of a few words stands.
 pub(crate) trait Named: Sized {
     // The value of each of the words.
     ghost stands_for: { List ℕ → Option Self };

@@ -12,14 +12,16 @@ use market::leg::LegTerms;
 use market::side::Side;
 
 impl<'a> Words<'a> {
+    /// `room NUMBER`
     #[tactic(auto, unfolding(crate::specs::Grammar::room))]
     pub(crate) fn room(&mut self) -> Result<Statement, Misread>
         ensures { with_rest result self.new ≡ room self.old }
     {
-        let number = self.u32(Expected::RoomNumber)?;
+        let number = self.exact_u32(Expected::RoomNumber)?;
         Ok(Statement::Setting(Setting::Room { number }))
     }
 
+    /// `leg buy|sell RATIO`
     #[tactic(auto, unfolding(crate::specs::Grammar::leg))]
     pub(crate) fn leg(&mut self) -> Result<Statement, Misread>
         ensures { with_rest result self.new ≡ leg self.old }
@@ -29,6 +31,7 @@ impl<'a> Words<'a> {
         Ok(Statement::Setting(Setting::Leg(LegTerms { side, ratio })))
     }
 
+    /// `ranking arrival|size`
     #[tactic(auto, unfolding(crate::specs::Grammar::ranking))]
     pub(crate) fn ranking(&mut self) -> Result<Statement, Misread>
         ensures { with_rest result self.new ≡ ranking self.old }
@@ -46,12 +49,13 @@ impl<'a> Words<'a> {
                 Ok(IntervalTerms::Fixed { milliseconds })
             }
             SourceName::Drawn => {
-                let seed = self.u32(Expected::Seed)?;
+                let seed = self.exact_u32(Expected::Seed)?;
                 Ok(IntervalTerms::Drawn { seed })
             }
         }
     }
 
+    /// `interval fixed MILLISECONDS`, `interval drawn SEED`
     #[tactic(auto, unfolding(crate::specs::Grammar::interval))]
     pub(crate) fn interval(&mut self) -> Result<Statement, Misread>
         ensures { with_rest result self.new ≡ interval self.old }

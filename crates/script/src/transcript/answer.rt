@@ -11,7 +11,7 @@ use market::cube::CubeFault;
 use session::answer::Answer;
 use std::fmt;
 
-// The answer to a call.
+/// The answer to a call.
 #[derive(Clone, Copy)]
 pub struct AnswerText<'a>(pub &'a Answer<CubeFault>);
 

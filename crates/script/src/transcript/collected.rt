@@ -22,7 +22,7 @@ impl fmt::Display for CollectionText {
     }
 }
 
-// What a collecting tells, with the rows.
+/// What a collecting tells, with the rows.
 #[derive(Clone, Copy)]
 pub struct CollectedText<'a>(pub Collection, pub &'a [FillRow]);
 

@@ -4,15 +4,18 @@ ghost use Rattle.script.specs.Misread.{not_understood_text};
 ghost use Rattle.script.specs.declared.transcript.not_understood.NotUnderstood.TheVariants as why;
 
 use crate::misread::Misread;
-use crate::setup::wanting::Wanting;
+use crate::setup::wanting::NoRoom;
 use std::fmt;
 
-// Why no call is made and nothing changes.
+/// Why no call is made and nothing changes.
 #[derive(Clone, Copy, PartialEq, Eq, Debug)]
 pub enum NotUnderstood {
+    /// The line is no statement.
     Misread(Misread),
+    /// A setting comes after the room is made.
     AfterFirstCall,
-    Wanting(Wanting),
+    /// A call or a question comes before it can be made.
+    NoRoom(NoRoom),
 }
 
 impl From<Misread> for NotUnderstood {
@@ -23,11 +26,11 @@ impl From<Misread> for NotUnderstood {
     }
 }
 
-impl From<Wanting> for NotUnderstood {
-    ghost from_gives = { λ e r. r ≡ why.Wanting e };
+impl From<NoRoom> for NotUnderstood {
+    ghost from_gives = { λ e r. r ≡ why.NoRoom e };
 
-    fn from(wanting: Wanting) -> NotUnderstood {
-        NotUnderstood::Wanting(wanting)
+    fn from(no_room: NoRoom) -> NotUnderstood {
+        NotUnderstood::NoRoom(no_room)
     }
 }
 
@@ -38,7 +41,7 @@ impl fmt::Display for NotUnderstood {
         match self {
             NotUnderstood::Misread(misread) => write!(f, "{misread}"),
             NotUnderstood::AfterFirstCall => f.write_str("a setting comes before the first call"),
-            NotUnderstood::Wanting(wanting) => write!(f, "{wanting}"),
+            NotUnderstood::NoRoom(no_room) => write!(f, "{no_room}"),
         }
     }
 }

@@ -7,15 +7,20 @@ ghost use Rattle.script.specs.Answer.{span_text, range_text};
 use market::range::PermittedRange;
 use std::fmt;
 
-// What a question for a range is told: the lowest and the highest permitted price, and the initiating price, none turned.
+/// What a question for a range is told: the lowest and the highest permitted price, and the initiating
+/// price, none turned.
 #[derive(Clone, Copy, PartialEq, Eq, Debug)]
 pub struct RangeTold {
+    /// The lowest permitted price, in cents.
     pub lowest: i64,
+    /// The highest.
     pub highest: i64,
+    /// The price at which an auction would begin.
     pub initiating: i64,
 }
 
 impl RangeTold {
+    /// What is told of a range.
     pub fn new(range: PermittedRange) -> RangeTold
         ensures { result ≡ range_told (range_prices range) }
     {

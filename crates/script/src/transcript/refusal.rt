@@ -2,7 +2,7 @@
 ghost use Rattle.std.specs.Prelude.{Some};
 ghost use Rattle.room.specs.Refusals.{refusal_told};
 ghost use Rattle.script.specs.Answer.{fault_text, refusal_text};
-ghost use Rattle.script.specs.Told.{cube_fault_told};
+ghost use Rattle.market.specs.Cube.{cube_fault_told};
 
 use market::better_of::Half;
 use market::cube::CubeFault;
@@ -27,7 +27,7 @@ impl fmt::Display for FaultText<'_> {
     }
 }
 
-// A refusal of a room: its number, and the market's fault where it holds one.
+/// A refusal of a room: its number, and the market's fault where it holds one.
 #[derive(Clone, Copy)]
 pub struct RefusalText<'a>(pub &'a Refusal<CubeFault>);
 

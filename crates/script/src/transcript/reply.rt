@@ -15,18 +15,23 @@ use market::refusal::RangeRefusal;
 use session::answer::Answer;
 use std::fmt;
 
-// What a statement is answered. A setting that is taken is answered as an accepted call is.
+/// What a statement is answered. A setting that is taken is answered as an accepted call is.
 #[derive(Drop)]
 pub enum Reply {
+    /// The answer to a call, or to a setting that is taken.
     Answered(Answer<CubeFault>),
+    /// A setting that is refused.
     SettingRefused(SettingRefusal),
+    /// A range.
     Permitted(RangeTold),
+    /// A question that is refused as an opening would be.
     RangeRefused(RangeRefusal),
+    /// A line that is not understood.
     NotUnderstood(NotUnderstood),
 }
 
 impl Reply {
-    // What a setting is answered.
+    /// What a setting is answered.
     pub fn to_setting(outcome: Result<(), SettingFailure>) -> Reply
         ensures { reply_told result ≡ setting_reply (told_by failure_told outcome) }
     {
@@ -39,7 +44,7 @@ impl Reply {
         }
     }
 
-    // What a question for a range is answered.
+    /// What a question for a range is answered.
     pub fn to_range(outcome: Result<PermittedRange, RangeRefusal>) -> Reply
         ensures { reply_told result ≡ range_reply (range_answer outcome) }
     {

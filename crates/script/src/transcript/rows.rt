@@ -6,7 +6,7 @@ use allocation::fill::FillRow;
 use allocation::response::Kind;
 use std::fmt;
 
-// How a kind of response is called.
+/// How a kind of response is called.
 #[derive(Clone, Copy)]
 pub struct KindText(pub Kind);
 
@@ -31,7 +31,7 @@ impl fmt::Display for PartyText {
     fn fmt<W: fmt::Write>(&self, f: &mut fmt::Formatter<W>) -> fmt::Result {
         let FillRow {
             member,
-            own,
+            own_number,
             class,
             ..
         } = self.0;
@@ -39,11 +39,11 @@ impl fmt::Display for PartyText {
             return f.write_str("contra");
         }
         let kind = KindText(self.0.kind);
-        write!(f, "member {member} own {own} {class} {kind}")
+        write!(f, "member {member} own {own_number} {class} {kind}")
     }
 }
 
-// One row.
+/// One row.
 #[derive(Clone, Copy)]
 pub struct RowText(pub FillRow);
 
@@ -62,7 +62,7 @@ impl fmt::Display for RowText {
     }
 }
 
-// All rows, each on a line of its own.
+/// All rows, each on a line of its own.
 #[derive(Clone, Copy)]
 pub struct RowsText<'a>(pub &'a [FillRow]);
 

@@ -5,7 +5,7 @@ ghost use Rattle.script.specs.Answer.{stored_text};
 use room::answers::StoredTerms;
 use std::fmt;
 
-// The size and the price of a response as it was stored.
+/// The size and the price of a response as it was stored.
 #[derive(Clone, Copy)]
 pub struct StoredText(pub StoredTerms);
 

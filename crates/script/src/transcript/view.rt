@@ -27,7 +27,7 @@ impl fmt::Display for AuctionText {
     }
 }
 
-// What a look tells.
+/// What a look tells.
 #[derive(Clone, Copy)]
 pub struct ViewText(pub View);
 

@@ -1,7 +1,7 @@
 -- What is written so far, with what the lines to come say, is what all of them say.
 use Rattle.std.proofs.Common.{◌≡◌, ◌++◌, drop, map, string_bytes}
 use Rattle.day.specs.Lines.{line_value}
-use Rattle.day.specs.WholeText.{reply_lines}
+use Rattle.day.specs.Whole.{reply_lines}
 use Rattle.day.proofs.whole.replies_text.Given as goal
 
 abbrev pub invariant-loop-line : goal.invariant-loop-line

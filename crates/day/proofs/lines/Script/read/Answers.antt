@@ -19,7 +19,7 @@ loop-before-init c =
       ap (λ (x : List Line). x ++ lines_from (settings_of c.new-setup.result) 1 (map (λ x. x.now) xs)) (ap (map line_value) c.new-lines.ensures.items)
           ∙ ap (λ (t : Settings). lines_from t 1 (map (λ x. x.now) xs)) c.new-setup.ensures
           ∙ ap (lines_from no_settings 1) all,
-      ap (λ (t : Settings). settings_behind_lines t (map (λ x. x.now) xs)) c.new-setup.ensures ∙ ap (settings_behind_lines no_settings) all,
+      ap (λ (t : Settings). settings_behind_lines t 1 (map (λ x. x.now) xs)) c.new-setup.ensures ∙ ap (settings_behind_lines no_settings 1) all,
     )
 
 pub loop-before-preserved : goal.loop-before-preserved
@@ -32,9 +32,9 @@ loop-before-preserved c =
     let did = c.in_ok-read_line.ensures in
     let t = settings_of c.loop-before.setup in
     let u = settings_of c.read_line.new.setup in (
-      one_read (λ x. x.now) xs i (record { ref_ptr = (0, 0); now = [] }) (map line_value c.loop-before.lines.items) (map line_value c.read_line.new.lines.items) t u inside did.lines did.told
+      one_read (λ x. x.now) xs i (record { ref_ptr = (0, 0); now = [] }) (map line_value c.loop-before.lines.items) (map line_value c.read_line.new.lines.items) t u inside did.lines did.settings
           ∙ c.loop-before.invariant.0,
-      one_told (λ x. x.now) xs i (record { ref_ptr = (0, 0); now = [] }) t u inside did.told ∙ c.loop-before.invariant.1,
+      one_told (λ x. x.now) xs i (record { ref_ptr = (0, 0); now = [] }) t u inside did.settings ∙ c.loop-before.invariant.1,
     )
 
 pub returns-clause-lines : goal.returns-clause-lines
@@ -51,5 +51,5 @@ returns-clause-room c =
     let test = c.loop-before-test.false in
     let end = c.loop-before.auto.before-end in
     let none = drop_all c.loop-before.before c.deref-line-items.result.now (omega arith) in
-    let told = ap (λ left. settings_behind_lines (settings_of c.loop-before.setup) (map (λ x. x.now) left)) (sym none) ∙ c.loop-before.invariant.1 in
-    ap (option_map room_values) c.ok.ensures.value ∙ room_values_made c.room.result _ (c.room.ensures.answer ∙ ap room_in told)
+    let told = ap (λ left. settings_behind_lines (settings_of c.loop-before.setup) (c.loop-before.before + 1) (map (λ x. x.now) left)) (sym none) ∙ c.loop-before.invariant.1 in
+    ap (option_map room_values) c.ok.ensures.value ∙ room_values_made c.terms.result _ (c.terms.ensures ∙ ap room_in told)

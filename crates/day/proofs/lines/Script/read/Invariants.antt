@@ -10,4 +10,4 @@ invariant-loop-before l =
     let rest = map (λ x. x.now) (drop l.before l.line-items) in
     let all = lines l.fn.text in
     (map line_value l.lines.items ++ lines_from (settings_of l.setup) (l.before + 1) rest ≡ lines_from no_settings 1 all)
-    × (settings_behind_lines (settings_of l.setup) rest ≡ settings_behind_lines no_settings all)
+    × (settings_behind_lines (settings_of l.setup) (l.before + 1) rest ≡ settings_behind_lines no_settings 1 all)

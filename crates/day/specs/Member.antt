@@ -5,11 +5,12 @@ use Rattle.std.specs.Fmt.{decimal}
 use Rattle.std.specs.Str.Lines.{lines}
 use Rattle.day.specs.Calls.{call_in, calls_in}
 use Rattle.day.specs.Lines.{CubeCall, Line, Entry, Call, lines_from, settings_behind_lines, room_of}
-use Rattle.day.specs.CarriedOut.{CarriedOut, CubeDesk, answers_at}
+use Rattle.day.specs.CarriedOut.{CarriedOut, CubeRoom, CubeWorld, answers_to}
 use Rattle.script.specs.declared.setup.room_terms.RoomTerms.{RoomTerms}
 use Rattle.script.specs.Setup.{no_settings, room_in, room_values}
 use Rattle.script.specs.Answer.{answer_text}
-use Rattle.script.specs.Told.{CubeFaultTold, AnswerTold}
+use Rattle.market.specs.Cube.{CubeFaultTold}
+use Rattle.script.specs.Told.{AnswerTold}
 use Rattle.session.specs.Learning.{shown_of}
 use Rattle.session.specs.Runs.{Accepted}
 
@@ -31,7 +32,7 @@ line_for member number (Call c) (a ∷ answers) = answered_line member number c 
 line_for member number _ answers = []
 
 -- and the answers behind it.
-abbrev pub answers_behind : Entry → List AnswerTold → List AnswerTold
+abbrev pub answers_behind : {A : Type 0} → Entry → List A → List A
 answers_behind (Call c) (a ∷ answers) = answers
 answers_behind _ answers = answers
 
@@ -40,12 +41,13 @@ abbrev pub text_for : ℕ → List Line → List AnswerTold → List ℕ
 text_for member [] answers = []
 text_for member (l ∷ ls) answers = line_for member l.number l.entry answers ++ text_for member ls (answers_behind l.entry answers)
 
--- What is written of a line, and of lines, whose calls are made at this desk.
-abbrev pub line_at : ℕ → CubeDesk → Line → List ℕ
-line_at member d l = line_for member l.number l.entry (answers_at d (call_in l.entry))
+-- What is written so far for a member, and then with a line that is carried out in this room.
+pub record MemberNotes : Type 0 where
+  pub member : ℕ
+  pub text : List ℕ
 
-abbrev pub text_at : ℕ → CubeDesk → List Line → List ℕ
-text_at member d ls = text_for member ls (answers_at d (calls_in ls))
+abbrev pub member_notes_after : CubeWorld → CubeRoom → Line → MemberNotes → MemberNotes
+member_notes_after w s l x = record x { text = x.text ++ line_for x.member l.number l.entry (answers_to w s (call_in l.entry)) }
 
 -- The text is that of these lines, whose calls were carried out in the room of these terms: every law of a run holds of them,
 -- and that of what a member may learn.
@@ -61,5 +63,5 @@ TextIn member (Some terms) lines text = TextFor member terms lines text
 -- The text for a member of a whole script: of its lines, in the room that is made of what it tells.
 pub record TranscriptFor (member : ℕ) (script text : List ℕ) : Type 0 where
   pub room : Option RoomTerms
-  pub made : option_map room_values room ≡ room_of (room_in (settings_behind_lines no_settings (lines script)))
+  pub made : option_map room_values room ≡ room_of (room_in (settings_behind_lines no_settings 1 (lines script)))
   pub written : TextIn member room (lines_from no_settings 1 (lines script)) text
