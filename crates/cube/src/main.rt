@@ -1,77 +1,55 @@
-// Reads a day's script, carries it out, and prints the transcript.
+// Reads days that are written as scripts, carries them out, and prints their transcripts.
 #![tactic(auto)]
 
 mod command_line;
+mod days;
+mod failure;
+mod fills_table;
+mod messages;
+mod outcome;
+mod source;
 
-use command_line::{Day, Task, USAGE};
-use day::transcript::{Transcript, transcript_for, whole_transcript};
+use command_line::Request;
+use failure::Failure;
+use messages::{print, tell};
+use outcome::Outcome;
 use script::explain::Explanation;
-use std::alloc::{AllocError, Global};
-use std::io::Read;
+use std::env;
+use std::io::Eprint;
 use std::process::ExitCode;
-use std::{env, fs, io};
 
-// The program could not run at all.
-const UNABLE: u8 = 2;
+// Prints the help or the version, or tells what is wrong with the words of the command line.
+fn print_usage(rt: &HostRuntime, error: clap::Error) -> Result<Outcome, Failure> {
+    if error.use_stderr() {
+        rt.eprint(error).map_err(Failure::Messages)?;
+        return Ok(Outcome::Unable);
+    }
+    print(rt, error)?;
+    Ok(Outcome::Understood)
+}
 
-// The bytes of the script.
-fn bytes_of(rt: &HostRuntime, file: Option<&str>) -> io::Result<Vec<u8>> {
-    match file {
-        Some(name) => fs::read(rt, name),
-        None => {
-            let mut bytes = Vec::new(rt.alloc());
-            rt.stdin().read_to_end(&mut bytes)?;
-            Ok(bytes)
+// Does what the words of the command line ask for.
+fn run(rt: &HostRuntime) -> Result<Outcome, Failure> {
+    let words = env::args(rt).map_err(Failure::Words)?;
+    let words: Vec<String> = words.collect(rt.alloc())?;
+    match Request::of(rt.alloc(), &words) {
+        Ok(Request::Explain) => {
+            print(rt, Explanation)?;
+            Ok(Outcome::Understood)
         }
+        Ok(Request::Scripts(options)) => days::run(rt, &options),
+        Err(error) => print_usage(rt, error),
     }
 }
 
-// The script carried out. Bytes of it that are no text are in no word that is understood.
-fn transcript(heap: Global, bytes: &[u8], member: Option<u8>) -> Result<Transcript, AllocError> {
-    let script = String::from_utf8_lossy(heap, bytes)?;
-    match member {
-        Some(member) => transcript_for(heap, &script, member),
-        None => whole_transcript(heap, &script),
-    }
-}
-
-// Prints the transcript of the script.
-fn carry_out(rt: &HostRuntime, bytes: &[u8], member: Option<u8>) -> io::Result<ExitCode> {
-    let Ok(Transcript { text, understood }) = transcript(rt.alloc(), bytes, member) else {
-        eprintln!(rt; "cube: there is not enough memory for this script")?;
-        return Ok(ExitCode::from(UNABLE));
+fn main(rt: HostRuntime) -> ExitCode {
+    let outcome = match run(&rt) {
+        Ok(outcome) => outcome,
+        Err(failure) => {
+            // Where standard error is what cannot be written, the exit status alone tells.
+            let _ = tell(&rt, failure);
+            Outcome::Unable
+        }
     };
-    rt.print(text)?;
-    Ok(if understood {
-        ExitCode::SUCCESS
-    } else {
-        ExitCode::FAILURE
-    })
-}
-
-fn run(rt: &HostRuntime, day: Day<'_>) -> io::Result<ExitCode> {
-    match bytes_of(rt, day.file) {
-        Ok(bytes) => carry_out(rt, &bytes, day.member),
-        Err(error) => {
-            let name = day.file.unwrap_or("standard input");
-            eprintln!(rt; "cube: {name} cannot be read: {error}")?;
-            Ok(ExitCode::from(UNABLE))
-        }
-    }
-}
-
-fn main(rt: HostRuntime) -> io::Result<ExitCode> {
-    let words: Vec<String> = env::args(&rt)?.skip(1).collect(rt.alloc())?;
-    let words: Vec<&str> = words.iter().map(|word| word.as_str()).collect(rt.alloc())?;
-    match command_line::task_of(&words) {
-        Some(Task::Explain) => {
-            rt.print(Explanation)?;
-            Ok(ExitCode::SUCCESS)
-        }
-        Some(Task::Day(day)) => run(&rt, day),
-        None => {
-            eprintln!(rt; "{USAGE}")?;
-            Ok(ExitCode::from(UNABLE))
-        }
-    }
+    ExitCode::from(outcome.status())
 }

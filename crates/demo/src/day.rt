@@ -1,4 +1,4 @@
-// One auction in a room, from its opening to its collecting: what each call is answered, and what everybody sees after it.
+// One auction in a room, from its opening to its collecting: each call's answer, and what everybody sees.
 use crate::table::show_table;
 use crate::text::Price;
 use allocation::fill::LEAST_ROWS;
@@ -47,8 +47,11 @@ fn show_stored(rt: &HostRuntime, terms: &StoredTerms) -> io::Result<()> {
     println!(rt; "    stored {} at {}", terms.size, Price(terms.price))
 }
 
-fn show_collection(rt: &HostRuntime, told: &Collection) -> io::Result<()> {
-    println!(rt; "    collected, ended for cause {}", told.cause.letter())
+fn show_collection(rt: &HostRuntime, collection: &Collection) -> io::Result<()> {
+    println!(rt;
+        "    collected, ended for cause {}",
+        collection.cause.letter()
+    )
 }
 
 fn show_answer(rt: &HostRuntime, answer: &CubeAnswer) -> io::Result<()> {
@@ -62,8 +65,8 @@ fn show_answer(rt: &HostRuntime, answer: &CubeAnswer) -> io::Result<()> {
         Answer::Stored(terms) => show_stored(rt, terms),
         Answer::Accepted => println!(rt; "    accepted"),
         Answer::Looked(view) => show_view(rt, view),
-        Answer::Collected(told, rows) => {
-            show_collection(rt, told)?;
+        Answer::Collected(collection, rows) => {
+            show_collection(rt, collection)?;
             show_table(rt, rows, SIZE)
         }
         Answer::Refused(refusal) => println!(rt; "    refused: {}", refusal.number()),
@@ -109,7 +112,7 @@ fn response(time: u64, member: u8, class: Class, size: u32, price: i64) -> CubeC
     Call::Respond(ResponseRequest {
         time,
         member,
-        own: 1,
+        own_number: 1,
         side: Side::Sell,
         kind,
         class,
@@ -122,7 +125,7 @@ fn change(time: u64, member: u8, size: u32, price: i64) -> CubeCall {
     Call::Change(ChangeRequest {
         time,
         member,
-        own: 1,
+        own_number: 1,
         size,
         price,
     })
@@ -208,7 +211,8 @@ impl Day<'_> {
             change(10_050, 2, 40, 300),
         )?;
         self.make_and_look(
-            "10,060: leg 1 is quoted 506 bid, 509 offered: the floor rises to 299, above two responses, which ends the auction",
+            "10,060: leg 1 is quoted 506 bid, 509 offered: \
+             the floor rises to 299, above two responses, which ends the auction",
             tick_leg(10_060, 1, 506, 509),
         )
     }
@@ -224,9 +228,11 @@ impl Day<'_> {
     }
 }
 
+/// Narrates an auction in a room whose market has these legs.
 pub fn auction(rt: &HostRuntime, legs: Legs) -> io::Result<()> {
     println!(rt;
-        "\n12. A whole auction in a room, with intervals of 100 milliseconds. Nobody sees the stop before the end."
+        "\n12. A whole auction in a room, with intervals of 100 milliseconds. \
+         Nobody sees the stop before the end."
     )?;
     let Ok(source) = FixedInterval::new(100) else {
         return println!(rt; "  no interval");
@@ -236,8 +242,8 @@ pub fn auction(rt: &HostRuntime, legs: Legs) -> io::Result<()> {
         rt,
         desk: Desk::new(rt.alloc(), ROOM, market, EarlierArrival, source),
     };
-    let told = day.whole();
+    let narrated = day.whole();
     let Day { rt: _, desk } = day;
     let _closed = desk.close();
-    told
+    narrated
 }

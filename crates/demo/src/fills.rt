@@ -1,6 +1,9 @@
-// Two auctions, each from its order and its responses to its fill list. Who gets what is what the library answers.
+// Two auctions, each from its order and its responses to its fill list. The library answers who gets what.
+ghost use Rattle.std.specs.Prelude.{◌≡◌, true, Some};
+ghost use Rattle.market.specs.Limits.{showable};
+
 use crate::levels::Shared;
-use crate::responses::{Responses, Told, response};
+use crate::responses::{ResponseTerms, Responses, response_terms};
 use crate::steps::{show_range, show_refusal};
 use crate::table::show_table;
 use crate::text::Price;
@@ -9,6 +12,7 @@ use allocation::fill::{FillRow, LEAST_ROWS};
 use allocation::order::{Guarantee, GuaranteeKind, PairedOrder};
 use allocation::ranking::{EarlierArrival, LargerSize, Ranking};
 use allocation::response::Class::{Customer, Other};
+use allocation::terms::AuctionTerms;
 use market::Market;
 use market::range::PermittedRange;
 use market::side::Side;
@@ -27,16 +31,18 @@ impl Called for LargerSize {
     const NAME: &'static str = "the larger size first";
 }
 
-// What an auction is told, its prices not turned, and its ranking.
-#[derive(Clone, Copy)]
+// An auction's order and responses, their prices not turned, and its ranking.
+#[derive(Drop)]
 struct Task<'a, R> {
     side: Side,
     size: u32,
     limit: i64,
     kind: GuaranteeKind,
     price: i64,
-    told: &'a [Told],
+    responses: &'a [ResponseTerms],
     ranking: R,
+    ghost limit_within: { showable (Some limit) ≡ true },
+    ghost price_within: { showable (Some price) ≡ true },
 }
 
 impl<R: Called> Task<'_, R> {
@@ -72,7 +78,7 @@ impl<R: Called> Task<'_, R> {
             rows,
             kind: self.kind,
             initiating: self.side.turn(auction.initiating()),
-            ranked: R::NAME,
+            ranking: R::NAME,
         };
         shared.show_levels(rt, self.size)?;
         show_table(rt, rows, self.size)
@@ -90,12 +96,18 @@ impl<R: Called> Task<'_, R> {
 
     // The auction of the order, in the range that it is permitted.
     fn hold(&self, rt: &HostRuntime, range: PermittedRange) -> io::Result<()> {
-        let Some(mut auction) = Auction::new(self.order(), range.floor, range.initiating) else {
-            return println!(rt; "    no auction has these terms");
+        let terms = AuctionTerms {
+            order: self.order(),
+            floor: range.floor,
+            initiating: range.initiating,
         };
+        if !terms.hold() {
+            return println!(rt; "    no auction has these terms");
+        }
+        let mut auction = Auction::new(terms);
         let responses = Responses {
             side: self.side,
-            told: self.told,
+            terms: self.responses,
         };
         if !responses.store_all(&mut auction) {
             return println!(rt; "    a response may not stand");
@@ -127,12 +139,12 @@ fn buy<M: Market>(rt: &HostRuntime, market: &M) -> io::Result<()> {
         limit: 310,
         kind: GuaranteeKind::SingleStop,
         price: 300,
-        told: &[
-            response(3, Other, 50, 300),
-            response(4, Other, 20, 300),
-            response(5, Other, 25, 297),
-            response(2, Customer, 30, 300),
-            response(6, Other, 15, 302),
+        responses: &[
+            response_terms(3, Other, 50, 300),
+            response_terms(4, Other, 20, 300),
+            response_terms(5, Other, 25, 297),
+            response_terms(2, Customer, 30, 300),
+            response_terms(6, Other, 15, 302),
         ],
         ranking: EarlierArrival,
     };
@@ -141,7 +153,8 @@ fn buy<M: Market>(rt: &HostRuntime, market: &M) -> io::Result<()> {
 
 fn sell<M: Market>(rt: &HostRuntime, market: &M) -> io::Result<()> {
     println!(rt;
-        "\n11. An order to sell is shared out. From its auto-match limit on the contra firm matches what stands,"
+        "\n11. An order to sell is shared out. \
+         From its auto-match limit on the contra firm matches what stands,"
     )?;
     println!(rt;
         "    until it has G; where too little is left for that, it cleans up with what it lacks of G."
@@ -152,21 +165,22 @@ fn sell<M: Market>(rt: &HostRuntime, market: &M) -> io::Result<()> {
         limit: 290,
         kind: GuaranteeKind::AutoMatchLimit,
         price: 302,
-        told: &[
-            response(2, Other, 9, 300),
-            response(3, Other, 17, 300),
-            response(4, Other, 10, 302),
-            response(5, Other, 21, 300),
-            response(6, Customer, 10, 304),
-            response(7, Customer, 5, 302),
-            response(8, Other, 15, 304),
-            response(9, Customer, 10, 300),
+        responses: &[
+            response_terms(2, Other, 9, 300),
+            response_terms(3, Other, 17, 300),
+            response_terms(4, Other, 10, 302),
+            response_terms(5, Other, 21, 300),
+            response_terms(6, Customer, 10, 304),
+            response_terms(7, Customer, 5, 302),
+            response_terms(8, Other, 15, 304),
+            response_terms(9, Customer, 10, 300),
         ],
         ranking: LargerSize,
     };
     task.work(rt, market)
 }
 
+/// Narrates both auctions, in the ranges that the market permits.
 pub fn auctions<M: Market>(rt: &HostRuntime, market: &M) -> io::Result<()> {
     buy(rt, market)?;
     sell(rt, market)

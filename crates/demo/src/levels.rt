@@ -79,8 +79,8 @@ impl<'a> Part<'a> {
         })
     }
 
-    // One response of a class that shares too few; `place` is its place in the ranking.
-    fn show_share(&self, rt: &HostRuntime, place: u32, row: &FillRow) -> io::Result<()> {
+    // One response of a class that shares too few, and its rank in its class, 1 for the first.
+    fn show_share(&self, rt: &HostRuntime, rank: u32, row: &FillRow) -> io::Result<()> {
         let FillRow { member, filled, .. } = *row;
         let got = self.got();
         let total = self.size();
@@ -90,21 +90,21 @@ impl<'a> Part<'a> {
         if u64::from(filled) == share {
             println!(rt; "")
         } else {
-            println!(rt; ", and an odd contract as number {place} in the ranking: {filled}")
+            println!(rt; ", and an odd contract as number {rank} in the ranking: {filled}")
         }
     }
 
-    fn show_shares(&self, rt: &HostRuntime, ranked: &str) -> io::Result<()> {
-        for (place, row) in (1..=u32::MAX).zip(self.rows) {
-            self.show_share(rt, place, row)?;
+    fn show_shares(&self, rt: &HostRuntime, ranking: &str) -> io::Result<()> {
+        for (rank, row) in (1..=u32::MAX).zip(self.rows) {
+            self.show_share(rt, rank, row)?;
         }
         match self.odd_contracts() {
             0 => println!(rt; "      odd contracts: none"),
-            odd => println!(rt; "      odd contracts: {odd}, one each, {ranked}"),
+            odd => println!(rt; "      odd contracts: {odd}, one each, {ranking}"),
         }
     }
 
-    fn show(&self, rt: &HostRuntime, ranked: &str) -> io::Result<()> {
+    fn show(&self, rt: &HostRuntime, ranking: &str) -> io::Result<()> {
         let party = self.party;
         let got = self.got();
         let size = self.size();
@@ -114,7 +114,7 @@ impl<'a> Part<'a> {
             println!(rt; "    {party}: {got}, all that they stand with")
         } else {
             println!(rt; "    {party}: {got} of the {size} that they stand with")?;
-            self.show_shares(rt, ranked)
+            self.show_shares(rt, ranking)
         }
     }
 }
@@ -148,13 +148,17 @@ impl<'a> Level<'a> {
     }
 }
 
-// A fill list, with the kind of the guarantee, the initiating price (not turned) and how the ranking is called.
+/// A fill list, with what tells how it came about.
 #[derive(Clone, Copy)]
 pub struct Shared<'a> {
+    /// Its rows.
     pub rows: &'a [FillRow],
+    /// The kind of the order's guarantee.
     pub kind: GuaranteeKind,
+    /// The initiating price in cents, not turned.
     pub initiating: i64,
-    pub ranked: &'static str,
+    /// What the ranking is called.
+    pub ranking: &'static str,
 }
 
 impl Shared<'_> {
@@ -180,15 +184,15 @@ impl Shared<'_> {
     // Shows a level and answers what it leaves of the order.
     fn show_level(&self, rt: &HostRuntime, level: &Level<'_>, before: u32) -> io::Result<u32> {
         println!(rt; "  level {}: R is {before}", Price(level.price))?;
-        level.customers.show(rt, self.ranked)?;
+        level.customers.show(rt, self.ranking)?;
         self.show_contra(rt, level)?;
-        level.others.show(rt, self.ranked)?;
+        level.others.show(rt, self.ranking)?;
         let after = level.left_of(before);
         println!(rt; "    R is then {after}")?;
         Ok(after)
     }
 
-    // Each level of the fill list in turn, with R, what is left of the order.
+    /// Prints each level of the fill list in turn, with R, what is left of an order of this size.
     pub fn show_levels(&self, rt: &HostRuntime, size: u32) -> io::Result<()> {
         println!(rt; "  level by level, R being what is left of the order:")?;
         self.rows

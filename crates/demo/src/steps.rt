@@ -1,4 +1,4 @@
-// The narration, step by step. What it prints of markets and ranges is what the library answers.
+// The narration of a market, step by step. What it prints of markets and ranges the library answers.
 use crate::fills::auctions;
 use crate::text::{Price, Shown};
 use market::Market;
@@ -13,6 +13,7 @@ use market::refusal::RangeRefusal;
 use market::side::Side;
 use std::io;
 
+/// Prints the terms of the leg of this number.
 pub fn show_terms(rt: &HostRuntime, number: u32, terms: LegTerms) -> io::Result<()> {
     let LegTerms { side, ratio } = terms;
     println!(rt; "  leg {number}: {side} {ratio}")
@@ -26,7 +27,7 @@ fn show(rt: &HostRuntime, what: &str, quote: Quote) -> io::Result<()> {
     )
 }
 
-// No Display of Cause: these are the narration's words, and the library knows a cause by its number alone.
+// These are the narration's words: the library knows a cause by its number alone.
 fn meaning_of(cause: Cause) -> &'static str {
     match cause {
         Cause::NoSuchLeg => "no such leg",
@@ -42,6 +43,7 @@ fn refused(rt: &HostRuntime, half: &str, fault: Fault) -> io::Result<()> {
     println!(rt; "    refused by the {half}: cause {number} ({meaning}), place {place}")
 }
 
+/// Prints a permitted range, and the prices from which it comes.
 pub fn show_range(rt: &HostRuntime, range: PermittedRange) -> io::Result<()> {
     println!(rt;
         "    floor {}, contra price {}, initiating price {}",
@@ -65,7 +67,7 @@ pub fn show_range(rt: &HostRuntime, range: PermittedRange) -> io::Result<()> {
     )
 }
 
-// No Display of RangeRefusal: these are the narration's words, and the library knows a refusal by its number alone.
+// These are the narration's words: the library knows a refusal by its number alone.
 fn why(refusal: RangeRefusal) -> &'static str {
     match refusal {
         RangeRefusal::PriceOutsideLimits => "a price outside the limits",
@@ -74,6 +76,7 @@ fn why(refusal: RangeRefusal) -> &'static str {
     }
 }
 
+/// Prints why no range is permitted.
 pub fn show_refusal(rt: &HostRuntime, refusal: RangeRefusal) -> io::Result<()> {
     println!(rt; "    refused: {}, {}", refusal.number(), why(refusal))
 }
@@ -157,12 +160,14 @@ impl Narration<'_> {
 
     fn orders(&self) -> io::Result<()> {
         println!(self.rt;
-            "\n5. An order to buy may trade from the CUBE bid up to the lower of its limit and the CUBE offer."
+            "\n5. An order to buy may trade from the CUBE bid \
+             up to the lower of its limit and the CUBE offer."
         )?;
         self.ask(Side::Buy, 310)?;
         self.ask(Side::Buy, 300)?;
         println!(self.rt;
-            "\n6. An order to sell may trade from the CUBE offer down to the higher of its limit and the CUBE bid."
+            "\n6. An order to sell may trade from the CUBE offer \
+             down to the higher of its limit and the CUBE bid."
         )?;
         self.ask(Side::Sell, 290)?;
         println!(self.rt; "\n7. A limit that the market has left behind permits nothing.")?;
@@ -188,6 +193,7 @@ impl Narration<'_> {
     }
 }
 
+/// Narrates a CUBE market over these legs, and then two auctions in the ranges that it permits.
 pub fn narrate(rt: &HostRuntime, legs: Legs) -> io::Result<()> {
     let mut narration = Narration {
         rt,

@@ -21,15 +21,15 @@ fn show_row(rt: &HostRuntime, row: &FillRow) -> io::Result<()> {
     println!(rt; "{class:<8}  {filled:>6}  {left:>4}")
 }
 
-// The contracts that all these rows are filled.
-// The examples have one alike: no layer holds what only programs call, and neither program rests on the other.
+/// How many contracts all these rows are filled.
+// The examples have one alike: no layer has what only programs call, and neither program rests on the other.
 pub fn filled_in(rows: &[FillRow]) -> u32 {
     rows.iter()
         .map(|row| row.filled)
         .fold(0, u32::saturating_add)
 }
 
-// The rows, and whether their filled total the order's size.
+/// Prints the rows, and whether their filled total the order's size.
 pub fn show_table(rt: &HostRuntime, rows: &[FillRow], size: u32) -> io::Result<()> {
     println!(rt; "  the fill list:")?;
     println!(rt; "    price        who        class     filled  left")?;

@@ -1,7 +1,7 @@
 // Prices as the narration prints them.
 use std::fmt;
 
-// A price: cents, then dollars and cents, as in "-292 (-$2.92)".
+/// A price in cents. It is printed as cents, then as dollars and cents: `-292 (-$2.92)`.
 #[derive(Clone, Copy)]
 pub struct Price(pub i64);
 
@@ -15,8 +15,8 @@ impl fmt::Display for Price {
     }
 }
 
-// One side of what is shown, with its name: a price, or none.
-// The examples have one alike: no layer holds what only programs call, and neither program rests on the other.
+/// One side of what a market shows, with its name: a price in cents, or none.
+// The examples have one alike: no layer has what only programs call, and neither program rests on the other.
 #[derive(Clone, Copy)]
 pub struct Shown(pub &'static str, pub Option<i64>);
 
