@@ -30,7 +30,8 @@ use Rattle.room.specs.Storing.{next_terms, ResponsePasses, ChangePasses}
 use Rattle.room.specs.Ticks.{above_stop, tick_cause}
 use Rattle.room.specs.Counts.{all_arrived}
 use Rattle.room.proofs.Counting.{next_is_free, arrived_next}
-use Rattle.room.proofs.Sound.{stored_may_stand, each_push, each_rewritten, ends_for_none}
+use Rattle.allocation.proofs.AuctionKept.{each_push}
+use Rattle.room.proofs.Sound.{stored_may_stand, each_rewritten, ends_for_none}
 use Rattle.room.proofs.Tests.{both_true, left_true, right_true, none_some}
 
 -- the terms of an auction, one by one

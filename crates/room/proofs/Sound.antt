@@ -70,10 +70,6 @@ new_sound o r s h k = record {
 pub stored_may_stand : (most : ℕ) (floor initiating : ℤ) (size : ℕ) (z : ℤ) → leb 1 most ≡ true → le_z floor initiating ≡ true → leb 1 size ≡ true → lt_z initiating z ≡ false → stored_ok most floor initiating (min size most) (int_max floor z) ≡ true
 stored_may_stand most floor initiating size z a b c d = grind (arith, ints, nat_tests)
 
-pub each_push : {X : Type 0} (t : X → Bool) (xs : List X) (x : X) → each t xs ≡ true → t x ≡ true → each t (xs ++ x ∷ []) ≡ true
-each_push t [] x h k = both_true (t x) true k refl
-each_push t (y ∷ ys) x h k = both_true (t y) (each t (ys ++ x ∷ [])) (left_true (t y) (each t ys) h) (each_push t ys x (right_true (t y) (each t ys) h) k)
-
 -- a response with another size and price that may stand
 restored_ok : (most : ℕ) (floor initiating : ℤ) (size : ℕ) (z : ℤ) (n : ℕ) (x : Response) → stored_ok most floor initiating size z ≡ true → response_ok most floor initiating x ≡ true → response_ok most floor initiating (with_terms size z n x) ≡ true
 restored_ok most floor initiating size z n x k h = grind (arith, ints, nat_tests)

@@ -2,7 +2,7 @@
 -- one keeps that.
 use Rattle.std.proofs.Common.{◌≡◌, ℕ, ◌+◌, Bool, true, false, cond, not, eqb, leb, List, [], ◌∷◌, ℤ, is_some, sym, refl, ap, ◌∙◌, arith}
 use Rattle.std.proofs.lemmas.Bool.Decides.{nat_tests}
-use Rattle.allocation.proofs.AuctionKept.{apart_push}
+use Rattle.allocation.proofs.AuctionKept.{apart_push, each_push}
 use Rattle.allocation.proofs.OwnResponses.{free_stands}
 use Rattle.allocation.proofs.OwnsKept.{owns_push}
 use Rattle.allocation.specs.declared.response.Response.{Response}
@@ -15,7 +15,7 @@ use Rattle.room.specs.Counts.{all_arrived}
 use Rattle.room.specs.Responses.{as_stored, stored_price, stored_size, with_response, with_change, with_withdrawal}
 use Rattle.room.specs.State.{OpenValues}
 use Rattle.room.proofs.Counting.{next_is_free, arrived_next}
-use Rattle.room.proofs.Sound.{each_push, each_rewritten, each_without}
+use Rattle.room.proofs.Sound.{each_rewritten, each_without}
 use Rattle.room.proofs.Tests.{both_true, left_true, right_true}
 
 pub record Apart (a : OpenValues) : Type 0 where

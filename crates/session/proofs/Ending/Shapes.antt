@@ -39,7 +39,8 @@ use Rattle.session.proofs.Choices.{cond_through}
 use Rattle.session.proofs.Ending.Apart.{Apart, apart_response, apart_change, apart_withdrawal}
 use Rattle.session.proofs.Ending.Lives.{plain_is, unstepped}
 use Rattle.room.proofs.InsideLimits.{TermsInside, opening_sized, response_inside, change_inside}
-use Rattle.room.proofs.Sound.{Sound, each_push, each_changed, each_without, stood_sound, stored_may_stand}
+use Rattle.allocation.proofs.AuctionKept.{each_push}
+use Rattle.room.proofs.Sound.{Sound, each_changed, each_without, stood_sound, stored_may_stand}
 use Rattle.room.proofs.Tests.{true_false, refuse_none, unless_ok, and_then_ok, ok_err}
 use Rattle.std.specs.Str.{byte}
 
