@@ -5,7 +5,7 @@ use Rattle.market.specs.BetterOf.{half_told, better_of_meaning}
 use Rattle.market.specs.Market.{Meaning, RefusedLeaves, Apart, told_by}
 
 -- naming the half of a fault leaves whether there is one
-same_ok : {E F : Type 0} (f : E → F) (r : Result (Unit {0}) E) → is_ok (told_by f r) ≡ is_ok r
+pub same_ok : {E F : Type 0} (f : E → F) (r : Result (Unit {0}) E) → is_ok (told_by f r) ≡ is_ok r
 same_ok f (Ok u) = refl
 same_ok f (Err e) = refl
 
