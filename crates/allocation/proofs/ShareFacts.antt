@@ -112,13 +112,6 @@ shared_dealt k xs a =
         let ss : List ℕ = sizes (y ∷ ys) in
         sym (dealt_all (total ss) ss (omega (arith, s.0))) ∙ ap (λ odd. deal (total ss) (total ss) odd ss) (sym (none_odd (y ∷ ys) (s, h)))
 
-pub shared_min : (k : ℕ) (xs : List Response) → AllByRecursion Sized xs → shares (min k (total (sizes xs))) (sizes xs) ≡ shares k (sizes xs)
-shared_min k xs a =
-    let ss : List ℕ = sizes xs in
-    let t : ℕ = total ss in
-    let same : min (min k t) t ≡ min k t = omega arith in
-    shared_dealt (min k t) xs a ∙ ap (λ n. deal n t (n - parts_total n t ss) ss) same ∙ sym (shared_dealt k xs a)
-
 pub dealt_within : (k : ℕ) (xs : List Response) → AllByRecursion Sized xs → k ≤ total (sizes xs) → deal k (total (sizes xs)) (k - parts_total k (total (sizes xs)) (sizes xs)) (sizes xs) ≡ shares k (sizes xs)
 dealt_within k xs a h =
     let ss : List ℕ = sizes xs in

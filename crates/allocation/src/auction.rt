@@ -9,6 +9,7 @@ use crate::order::PairedOrder;
 use crate::response::{NewTerms, Response, ResponseId};
 use crate::table::ResponseTable;
 use crate::terms::AuctionTerms;
+use std::alloc::AllocError;
 
 /// An auction: its order with the guarantee, the range of turned prices from its floor to its initiating
 /// price, and the responses that stand, 64 at most. It is a value in fixed memory and takes no heap.
@@ -22,6 +23,25 @@ pub struct Auction {
     ghost responses: { each (response_ok order.size floor initiating) (standing table) ≡ true },
     ghost apart: { arrivals_apart (standing table) ≡ true },
     ghost owns: { owns_apart (standing table) ≡ true },
+}
+
+/// An auction of the same order, range and responses. It takes no memory, so it never fails.
+impl Clone for Auction {
+    ghost use Rattle.std.specs.Prelude.{⊤};
+    ghost use Rattle.allocation.specs.Auction.{auction_values};
+
+    ghost is_clone = { λ a b. auction_values b ≡ auction_values a };
+
+    ghost is_infallible = { λ _. ⊤ };
+
+    fn clone(&self) -> Result<Auction, AllocError> {
+        Ok(Auction {
+            order: self.order,
+            floor: self.floor,
+            initiating: self.initiating,
+            table: self.table.clone()?,
+        })
+    }
 }
 
 // Making and reading.

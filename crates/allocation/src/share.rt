@@ -2,7 +2,7 @@
 ghost use Rattle.std.specs.Prelude.{◌≡◌, ◌*◌, ◌/◌, ◌<◌, ◌≤◌, true, length, take, drop, Some};
 ghost use Rattle.std.proofs.Props.{props};
 ghost use Rattle.market.specs.Limits.{showable};
-ghost use Rattle.allocation.specs.Fill.{fill_row, shared_rows};
+ghost use Rattle.allocation.specs.Fill.{fill_row, class_rows, shared_rows};
 ghost use Rattle.allocation.specs.LevelSteps.{Sized, Sound};
 ghost use Rattle.allocation.specs.Share.{sizes, total, parts_total};
 
@@ -72,19 +72,33 @@ impl<'a> Standing<'a> {
             .sum()
     }
 
+    // Fills each response whole.
+    fn write_whole_rows(&self, side: Side, rows: &mut [FillRow])
+        requires { length rows.old ≡ length self.now.responses.now }
+        ensures { rows.new ≡ class_rows side self.now.responses.now (sizes self.now.responses.now) }
+    {
+        for (i, response) in self.responses.iter().enumerate() {
+            rows[i] = row_of(side, response, response.size);
+        }
+    }
+
     // Shares `k` contracts among the responses and writes their rows. Where `k` is enough for all, each part
-    // is the whole size.
+    // is the whole size, and no division is made to find it.
     pub(crate) fn share(&self, side: Side, k: u64, rows: &mut [FillRow])
         requires { length rows.old ≡ length self.now.responses.now }
         ensures { rows.new ≡ shared_rows side k self.now.responses.now }
     {
         let asked = self.total_size();
-        let deal = Deal {
-            among: *self,
-            contracts: k.min(asked),
-            asked,
-        };
-        deal.write_rows(side, rows);
+        if asked <= k {
+            self.write_whole_rows(side, rows);
+        } else {
+            let deal = Deal {
+                among: *self,
+                contracts: k,
+                asked,
+            };
+            deal.write_rows(side, rows);
+        }
     }
 }
 

@@ -6,7 +6,7 @@ use crate::response::{NewTerms, Response, ResponseId};
 use arrayvec::ArrayVec;
 
 // Fixed memory, and no heap.
-#[derive(Drop)]
+#[derive(Clone, Drop)]
 pub struct ResponseTable {
     pub(crate) responses: ArrayVec<Response, 64>,
 }
