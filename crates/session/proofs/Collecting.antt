@@ -1,5 +1,5 @@
 -- Collecting with a list of rows: when one list serves for another, and what the answer tells.
-use Rattle.std.proofs.Common.{◌≡◌, ℕ, ◌+◌, ◌≤◌, Bool, true, false, cond, not, eqb, ltb, List, ◌++◌, length, take, drop, min, replicate, Some, None, Ok, Err, Result, sym, refl, ap, ◌∙◌, arith, length-append, length-take, length-drop}
+use Rattle.std.proofs.Common.{◌≡◌, ℕ, ◌+◌, ◌≤◌, Bool, true, false, cond, not, eqb, ltb, List, ◌++◌, length, take, drop, Some, None, Ok, Err, Option, Result, sym, refl, ap, ◌∙◌, arith, length-append, length-drop}
 use Rattle.std.proofs.lemmas.List.{take_at}
 use Rattle.std.proofs.lemmas.Bool.Decides.{nat_tests}
 use Rattle.allocation.specs.declared.fill.FillRow.{FillRow}
@@ -11,6 +11,7 @@ use Rattle.room.specs.Rooms.{collected_answer}
 use Rattle.room.specs.State.{EndedValues, RoomState, is_number, waiting_auction, with_waiting, without_number}
 use Rattle.room.specs.World.{World}
 use Rattle.session.specs.declared.call.Call.TheVariants.{Collect}
+use Rattle.session.specs.History.{is_collected}
 use Rattle.session.specs.Runs.{Answer, Collected, Refused, answer_of_result, step}
 use Rattle.session.specs.SessionState.{SessionState, session_of, session_after, session_answer}
 use Rattle.session.specs.Purse.{holds, purse_left, without_claim}
@@ -69,15 +70,9 @@ gathered w s c n claim k rows new h e l =
     let fits = front.1 in
     (omega arith, told.0 ∙ ap (λ x. Collected k x) (sym front.0 ∙ ap (λ m. take m new) (sym count)))
 
--- a list that is as long as is asked for, up to the length that every collecting wants
-pub as_long : (asked m : ℕ) (x : FillRow) → m ≡ min asked 129 → ltb (length (take m (replicate 129 x))) 129 ≡ ltb asked 129
-as_long asked m x e =
-    let long : length (take m (replicate 129 x)) ≡ min asked 129 = omega (arith, length-take m (replicate 129 x)) in
-    grind (arith, nat_tests)
-
--- so what is told of it are at most 129 rows
-pub at_most_all : (count m : ℕ) (x : FillRow) (rows : List FillRow) → length rows ≡ length (take m (replicate 129 x)) → length (take count rows) ≤ 129
-at_most_all count m x rows e = omega (arith, length-take count rows, length-take m (replicate 129 x))
+-- a list that is long enough, where as many rows or more are asked for
+pub long_enough : (n : ℕ) → 129 ≤ n → ltb 129 129 ≡ ltb n 129
+long_enough n h = grind (arith, nat_tests)
 
 -- a collecting of a session
 module _ {P T F Q : Type 0} (w : World P T F Q) (s : RoomState P Q) (purse : List ClaimNumbers) (c : ClaimNumbers) (n : ℕ) where
@@ -92,6 +87,18 @@ module _ {P T F Q : Type 0} (w : World P T F Q) (s : RoomState P Q) (purse : Lis
         session_is after left then (room ∙ ap (λ (y : RoomState P Q × Answer F). y.0) is) claims ∙ sym (ap (λ (b : Bool). cond b then (session_of s purse)) h),
         ap Some same ∙ sym (ap (λ (b : Bool). cond b (Some (step w s (Collect c n)).1) None) h),
       )
+
+  -- with a claim that was taken out of the purse, and is put back where the collecting is refused
+  pub made_with : (x : ClaimNumbers) (m : ℕ) (after : RoomState P Q) (answered : Option (Answer F)) (others back left : List ClaimNumbers) → holds c purse ≡ true → x ≡ c
+      → after ≡ (step w s (Collect x m)).0 → answered ≡ Some (step w s (Collect x m)).1 → left ≡ cond (is_collected (step w s (Collect x m)).1) others back
+      → others ≡ without_claim c purse → back ≡ purse → ltb m 129 ≡ ltb n 129
+      → (session_of after left ≡ session_after w (session_of s purse) (Collect c n)) × (answered ≡ session_answer w (session_of s purse) (Collect c n))
+  made_with x m after answered others back left h e room told claims without again l =
+      let answer = (step w s (Collect x m)).1 in
+      let kept : left ≡ purse_left answer x purse =
+      claims ∙ ap (λ y. cond (is_collected answer) y back) (without ∙ ap (λ y. without_claim y purse) (sym e)) ∙ ap (λ y. cond (is_collected answer) (without_claim x purse) y) again in
+      let is = made x m after answer left h e l room refl kept in
+      (is.0, told ∙ is.1)
 
   pub not_made : (left : List ClaimNumbers) → holds c purse ≡ false → left ≡ without_claim c purse
       → (session_of s left ≡ session_after w (session_of s purse) (Collect c n)) × (None ≡ session_answer w (session_of s purse) (Collect c n))

@@ -1,11 +1,12 @@
 -- When an auction ends: within a second, not by time too soon, never without waiting to be collected, and for its causes
 -- and no others.
-use Rattle.std.specs.Prelude.{◌≡◌, ℕ, ◌+◌, ◌≤◌, Bool, true, false, cond, ◌&&◌, List, [], ◌∷◌, length, is_some, Some, None, Option, ◌==◌, nat_le}
+use Rattle.std.specs.Prelude.{◌≡◌, ℕ, ◌+◌, ◌≤◌, Bool, true, false, cond, ◌&&◌, List, [], ◌∷◌, length, is_some, Some, None, Ok, Option, ◌==◌, nat_le}
+use Rattle.market.specs.Range.{permitted_range}
 use Rattle.room.specs.State.{RoomState, waiting_auction}
 use Rattle.room.specs.World.{World}
 use Rattle.session.specs.declared.call.Call.{Call}
 use Rattle.session.specs.declared.call.Call.TheVariants.{Collect}
-use Rattle.session.specs.History.{Story, opened_number, is_collected, time_then, openings, waits_then, story_of, cause_at, cause_of}
+use Rattle.session.specs.History.{Story, opened_number, is_collected, order_in, time_then, openings, market_at, waits_then, story_of, cause_at, cause_of}
 use Rattle.session.specs.Inputs.{input_reason}
 use Rattle.session.specs.Moments.{is_open, ends_at, ends_by_clock, times_ended, exchange_of, history_of, Throughout}
 use Rattle.session.specs.Runs.{Answer, Collected, Moment, given_time, step, run}
@@ -58,6 +59,14 @@ module _ {P T F Q : Type 0} (w : World P T F Q) (number : ℕ) (p : P) (q : Q) w
       (room auction rows : ℕ) → m.call ≡ Collect (record { room = room; auction = auction }) rows
       → is_collected m.answer ≡ (nat_le 129 rows && (room == number && waits_then w p q auction (history_of past)))
 
+  -- An opening is accepted. For the order that it hands in the market permits a range, at the position to which the accepted
+  -- ticks before it lead, and the story of the auction it opens has that order and that range.
+  abbrev pub MarketPermitsTheRange : List (Moment P T F Q) → Moment P T F Q → Type 0
+  MarketPermitsTheRange past m =
+      (n : ℕ) → opened_number m.answer ≡ Some n
+      → (s : Story) × (story_of w p q n (history_of (m ∷ past)) ≡ Some s) × (order_in m.call ≡ Some s.opening.order)
+      × (permitted_range s.opening.order.side s.opening.order.limit (w.market.shows (market_at w p q (history_of past))) ≡ Ok s.opening.range)
+
   -- An accepted opening opens an auction, in a range that the market permits; auctions are counted from one. From the
   -- moment at which it ends an auction waits until it is collected, so that accepted openings are as many as accepted
   -- collectings, auctions that wait and the one that is open, together; and it can be collected from then on. No more than two
@@ -68,6 +77,7 @@ module _ {P T F Q : Type 0} (w : World P T F Q) (number : ℕ) (p : P) (q : Q) w
     pub at_most_two : auction_count m.after ≤ 2
     pub counted_from_one : (n : ℕ) → opened_number m.answer ≡ Some n → n ≡ openings (history_of past) + 1
     pub opens_in_a_range : (n : ℕ) → opened_number m.answer ≡ Some n → (is_open n m.after ≡ true) × (is_some (story_of w p q n (history_of (m ∷ past))) ≡ true)
+    pub market_permits_the_range : MarketPermitsTheRange past m
     pub collected_when_due : CollectedWhenDue past m
 
   -- An auction that is open when a call comes ends at it if and only if the call brings one of its causes; and an accepted

@@ -1,14 +1,18 @@
 -- A session in code as the model has it: what a call makes of it, and what a run of it comes to.
-use Rattle.std.specs.Prelude.{◌≡◌, ◌≤◌, Bool, List, ◌∷◌, length, Option, map}
+use Rattle.std.specs.Prelude.{◌≡◌, ℕ, ◌+◌, ◌≤◌, Bool, cond, List, ◌∷◌, length, Option, Some, map}
+use Rattle.std.specs.List.{insert}
 use Rattle.market.specs.Market.{Meaning}
 use Rattle.interval.specs.Source.{SourceMeaning}
 use Rattle.allocation.specs.declared.response.Key.{Key}
+use Rattle.room.specs.declared.answers.ClaimNumbers.{ClaimNumbers}
 use Rattle.room.specs.Rooms.{state_of, world_of}
 use Rattle.room.specs.World.{World}
 use Rattle.session.specs.declared.call.Call.{Call}
+use Rattle.session.specs.declared.call.Call.TheVariants.{Collect}
 use Rattle.session.specs.declared.Session.{Session}
 use Rattle.session.specs.Lists.{lists_for_all}
-use Rattle.session.specs.Runs.{Answer}
+use Rattle.session.specs.History.{is_collected}
+use Rattle.session.specs.Runs.{Answer, step}
 use Rattle.session.specs.SessionState.{SessionState, session_of, session_after, session_answer, session_answers, session_end}
 use Rattle.session.specs.declared.answer.Answer.{Answer as CodeAnswer}
 use Rattle.session.specs.Promises.{Start, Carried, WholePromise, at_first}
@@ -36,6 +40,16 @@ pub record MadeAsModelled {M R S P T F Q : Type 0} (w : World P T F Q) (position
   pub answer : answered ≡ session_answer w (session_now position source before) c
   pub ranking : after.room.ranking ≡ before.room.ranking
   pub memory : (cs : List (Call T)) → HasMemoryFor before (c ∷ cs) → HasMemoryFor after cs
+
+-- A claim that was taken out of a session in code at this index went to the room with a list of so many rows: the room and the
+-- answer are the model's, the claim is spent or back at its index, and the session used no memory but its own.
+pub record CollectedAsModelled {M R S P T F Q : Type 0} (w : World P T F Q) (position : M → P) (source : S → Q) (before after : Session M R S) (answered : Option (Answer F)) (claim : ClaimNumbers) (index rows : ℕ) : Type 0 where
+  pub room : state_of position source after.room ≡ (step w (state_of position source before.room) (Collect claim rows)).0
+  pub answer : answered ≡ Some (step w (state_of position source before.room) (Collect claim rows)).1
+  pub claims : after.purse.numbers ≡ cond (is_collected (step w (state_of position source before.room) (Collect claim rows)).1) before.purse.numbers (insert before.purse.numbers index claim)
+  pub ranking : after.room.ranking ≡ before.room.ranking
+  pub free : before.purse.free ≤ after.purse.free + 1
+  pub lists : before.lists ≤ after.lists + 1
 
 module _ {M R S P T D F Q : Type 0} (fault : D → F) (position : M → P) (source : S → Q) where
   -- The calls that were carried out from this start on, and the session behind them.

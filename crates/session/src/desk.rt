@@ -1,6 +1,6 @@
 // A desk keeps a room together with the claims to all the auctions that it holds, so that no claim is left
 // over: it makes calls one by one, and can be closed at any time.
-ghost use Rattle.std.specs.Prelude.{◌≡◌, IfErr, IfOk, OnErr, OnOk, vec_items};
+ghost use Rattle.std.specs.Prelude.{◌≡◌, ◌≤◌, IfErr, IfOk, OnErr, OnOk, vec_items};
 ghost use Rattle.session.specs.Claims.{claims_of_room};
 
 use crate::Session;
@@ -63,6 +63,7 @@ impl<M: Market, R: Ranking, S: IntervalSource> Desk<M, R, S> {
             (room_world M.Market R.Ranking S.IntervalSource self.old.session.room)
             (room_state M.Market S.IntervalSource self.old.session.room) call) }
         ensures unmade { OnErr result (self.new.session.room ≡ self.old.session.room) }
+        ensures lists_back { OnErr result (self.new.session.lists ≡ self.old.session.lists) }
         ensures ranking { self.new.session.room.ranking ≡ self.old.session.room.ranking }
     {
         self.session.reserve(heap, 1, call.lists())?;
@@ -84,6 +85,8 @@ impl<M: Market, R: Ranking, S: IntervalSource> Desk<M, R, S> {
             self.old.session self.new.session (vec_items calls) (vec_items answers)) }
         ensures calls_back { IfErr result (λ back. back ≡ calls) }
         ensures unmade { OnErr result (self.new.session.room ≡ self.old.session.room) }
+        ensures lists_back { OnErr result (self.new.session.lists ≡ self.old.session.lists) }
+        ensures no_more_lists { self.new.session.lists ≤ self.old.session.lists }
     {
         self.session.run(heap, calls)
     }

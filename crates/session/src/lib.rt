@@ -4,7 +4,7 @@
 ghost use Rattle.std.specs.Prelude.{◌≡◌, ◌+◌, ◌≤◌, [], ◌∷◌, ◌++◌, length, map, vec_len, vec_capacity, vec_items, IfErr, IfOk, OnErr, OnOk};
 ghost use Rattle.room.specs.Rooms.{claim_numbers};
 ghost use Rattle.session.specs.declared.call.Call.TheVariants.{Open, Collect};
-ghost use Rattle.session.specs.Session.{HasMemoryFor, MadeAsModelled, session_now, session_world, RunAsModelled};
+ghost use Rattle.session.specs.Session.{CollectedAsModelled, HasMemoryFor, MadeAsModelled, session_now, session_world, RunAsModelled};
 ghost use Rattle.session.specs.SessionState.{session_answers, session_end};
 ghost use Rattle.session.specs.Answer.{told, told_result};
 
@@ -65,7 +65,8 @@ impl<M: Market, R: Ranking, S: IntervalSource> Session<M, R, S> {
         (room, purse.into_claims())
     }
 
-    // Takes the memory that so many calls can want, with so many lists of rows among them.
+    // Takes the memory that so many calls can want, with so many lists of rows among them. Where it is
+    // wanting, the lists are as many as before.
     pub(crate) fn reserve(
         &mut self,
         heap: Global,
@@ -74,6 +75,8 @@ impl<M: Market, R: Ranking, S: IntervalSource> Session<M, R, S> {
     ) -> Result<(), AllocError>
         ensures claims { OnOk result (calls ≤ self.new.purse.free) }
         ensures lists { OnOk result (lists ≤ self.new.lists) }
+        ensures no_fewer_lists { self.old.lists ≤ self.new.lists }
+        ensures lists_back { OnErr result (self.new.lists ≡ self.old.lists) }
         ensures same_room { self.new.room ≡ self.old.room }
         ensures same_claims { self.new.purse.numbers ≡ self.old.purse.numbers }
     {
@@ -91,11 +94,17 @@ impl<M: Market, R: Ranking, S: IntervalSource> Session<M, R, S> {
     ) -> Result<Vec<Answer<M::Fault>>, AllocError>
         ensures memory { OnOk result (HasMemoryFor self.new calls.now) }
         ensures answers { IfOk result (λ answers. (answers.items ≡ []) × (length calls.now ≤ vec_capacity answers)) }
+        ensures lists_back { OnErr result (self.new.lists ≡ self.old.lists) }
         ensures same_room { self.new.room ≡ self.old.room }
         ensures same_claims { self.new.purse.numbers ≡ self.old.purse.numbers }
     {
+        let before = self.lists.len();
         self.reserve(heap, calls.len(), lists_for_all(calls))?;
-        Vec::with_capacity(heap, calls.len())
+        let Ok(answers) = Vec::with_capacity(heap, calls.len()) else {
+            self.lists.truncate(before);
+            return Err(AllocError);
+        };
+        Ok(answers)
     }
 
     // Opens an auction and keeps the claim.
@@ -125,9 +134,44 @@ impl<M: Market, R: Ranking, S: IntervalSource> Session<M, R, S> {
         let Some(taken) = self.purse.take(&numbers) else {
             return Ok(Answer::NoClaim);
         };
+        // The room refuses a list that is too short, whatever its length: it is lent none then.
+        if rows < LEAST_ROWS {
+            return self.collect_into(taken, &mut []);
+        }
+        self.collect_whole(taken)
+    }
+
+    // Collects into a list that has a place for every row. A function pays for its locals at its entry, so the
+    // list stands in one of its own.
+    fn collect_whole(&mut self, taken: TakenClaim) -> Result<Answer<M::Fault>, Refusal<M::Fault>>
+        requires within { taken.index ≤ length self.old.purse.numbers }
+        requires free { 1 ≤ self.old.purse.free }
+        requires lists { 1 ≤ self.old.lists }
+        ensures { CollectedAsModelled (session_world M.Market.meaning S.IntervalSource.meaning R.Ranking.ahead self.old)
+            M.Market.position S.IntervalSource.position
+            self.old self.new (told_result M.Market.told result) (claim_numbers taken.claim) taken.index 129 }
+    {
+        self.collect_into(taken, &mut [FillRow::BLANK; LEAST_ROWS])
+    }
+
+    // Collects into this list with a claim that was taken out of the purse. Called at two places, it would not
+    // be inlined by itself, and a collecting took a fifth more time.
+    #[inline(always)]
+    fn collect_into(
+        &mut self,
+        taken: TakenClaim,
+        list: &mut [FillRow],
+    ) -> Result<Answer<M::Fault>, Refusal<M::Fault>>
+        requires within { taken.index ≤ length self.old.purse.numbers }
+        requires free { 1 ≤ self.old.purse.free }
+        requires lists { 1 ≤ self.old.lists }
+        requires few { length list.old ≤ 129 }
+        ensures { CollectedAsModelled (session_world M.Market.meaning S.IntervalSource.meaning R.Ranking.ahead self.old)
+            M.Market.position S.IntervalSource.position
+            self.old self.new (told_result M.Market.told result) (claim_numbers taken.claim) taken.index
+            (length list.old) }
+    {
         let TakenClaim { claim, index } = taken;
-        let mut written = [FillRow::BLANK; LEAST_ROWS];
-        let list = &mut written[..rows.min(LEAST_ROWS)];
         // A match: with a closure under `map_err` that puts the claim back, no proof knows what the purse
         // then holds.
         match self.room.collect(claim, list) {
@@ -211,7 +255,8 @@ impl<M: Market, R: Ranking, S: IntervalSource> Session<M, R, S> {
 
     /// Carries out the calls in order, and answers each. A collecting whose claim the session does not hold
     /// makes no call. All memory is taken before the first call: where it is wanting the calls come back,
-    /// none was made, and the room and the claims are as they were.
+    /// none was made, and the room and the claims are as they were. What it takes for rows and does not use
+    /// is let go at its end.
     pub fn run(
         &mut self,
         heap: Global,
@@ -226,11 +271,15 @@ impl<M: Market, R: Ranking, S: IntervalSource> Session<M, R, S> {
         ensures calls_back { IfErr result (λ back. back ≡ calls) }
         ensures room_back { OnErr result (self.new.room ≡ self.old.room) }
         ensures claims_back { OnErr result (self.new.purse.numbers ≡ self.old.purse.numbers) }
+        ensures lists_back { OnErr result (self.new.lists ≡ self.old.lists) }
+        ensures no_more_lists { self.new.lists ≤ self.old.lists }
     {
+        let kept = self.lists.len();
         let Ok(mut answers) = self.reserve_for_all(heap, &calls) else {
             return Err(calls);
         };
         self.play(calls, &mut answers);
+        self.lists.truncate(kept);
         Ok(answers)
     }
 }

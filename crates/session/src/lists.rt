@@ -1,5 +1,5 @@
 // The lists of rows that are kept for collectings to come.
-ghost use Rattle.std.specs.Prelude.{◌≡◌, ◌+◌, ◌≤◌, length, OnOk};
+ghost use Rattle.std.specs.Prelude.{◌≡◌, ◌+◌, ◌≤◌, length, min, OnErr, OnOk};
 
 use allocation::fill::{FillRow, LEAST_ROWS};
 use std::alloc::{AllocError, Global};
@@ -32,21 +32,42 @@ impl RowLists {
         }
     }
 
+    pub(crate) fn len(&self) -> usize
+        ensures { result ≡ self.now }
+    {
+        self.lists.len()
+    }
+
+    // Lets go of the lists past so many, and of the memory for their places.
+    pub(crate) fn truncate(&mut self, lists: usize)
+        ensures { self.new ≡ min lists self.old }
+    {
+        self.lists.truncate(lists);
+        self.lists.shrink_to_fit();
+    }
+
     // Takes memory for one list more.
     fn add(&mut self, heap: Global) -> Result<(), AllocError>
-        ensures { OnOk result (self.new ≡ self.old + 1) }
+        ensures more { OnOk result (self.new ≡ self.old + 1) }
+        ensures as_many { OnErr result (self.new ≡ self.old) }
     {
         let list = Vec::with_capacity(heap, LEAST_ROWS)?;
         self.lists.push(list)?;
         Ok(())
     }
 
-    // Takes memory until there are so many lists, or more.
+    // Takes memory until there are so many lists, or more. Where it is wanting, there are as many as before.
     pub(crate) fn reserve(&mut self, heap: Global, lists: usize) -> Result<(), AllocError>
-        ensures { OnOk result (lists ≤ self.new) }
+        ensures enough { OnOk result (lists ≤ self.new) }
+        ensures no_fewer { self.old ≤ self.new }
+        ensures as_many { OnErr result (self.new ≡ self.old) }
     {
-        for _count in self.lists.len()..lists {
-            self.add(heap)?;
+        let before = self.lists.len();
+        for _count in before..lists {
+            if self.add(heap).is_err() {
+                self.truncate(before);
+                return Err(AllocError);
+            }
         }
         Ok(())
     }

@@ -1,6 +1,6 @@
 -- When an auction ends: what holds of a room and its history at every moment of a run, and the laws that follow from it.
 use Rattle.std.proofs.Common.{◌≡◌, ◌⊎◌, inl, inr, ℕ, ◌+◌, ◌-◌, ◌≤◌, max, Bool, true, false, cond, not, ◌&&◌, eqb, List, [], ◌∷◌, ℤ, is_some, Some, None, Ok, Err, Option, Result, sym, refl, ap, ◌∙◌, arith}
-use Rattle.std.proofs.lemmas.Bool.{and_left}
+use Rattle.std.proofs.lemmas.Bool.{and_left, eq-eqb}
 use Rattle.std.specs.Option.{option_map}
 use Rattle.std.proofs.lemmas.Bool.Decides.{nat_tests as tests}
 use Rattle.std.proofs.lemmas.List.{get_or-replicate}
@@ -17,7 +17,7 @@ use Rattle.room.specs.Openings.{new_auction, none_used}
 use Rattle.room.specs.State.{OpenValues, EndedValues, RoomState, new_room, waiting_auction, without_number, used_by}
 use Rattle.room.specs.World.{World}
 use Rattle.session.specs.declared.call.Call.{Call}
-use Rattle.session.specs.Ending.{collectings, auction_count}
+use Rattle.session.specs.Ending.{collectings, auction_count, MarketPermitsTheRange}
 use Rattle.session.specs.History.{Exchange, OpeningFacts, Story, new_story, range_shown, story_by, clock_time, opens, collects, opened_number, is_accepted, is_collected, is_same, auction_in, tick_in, order_in, halted_by, time_then, halted_then, openings, was_collected, story_after, story_opened, story_of, market_at, source_at, position_then}
 use Rattle.session.specs.Moments.{is_open, ends_at, times_ended, exchange_of, history_of}
 use Rattle.session.specs.Runs.{Answer, Moment, given_time, input_refusal, moment, step}
@@ -140,29 +140,40 @@ module _ {P T F Q : Type 0} (w : World P T F Q) (drawn : WithinLimits w.source) 
         let other : eqb (m.stepped.opened + 1) n ≡ false = sym (ap (is_same n) c.opens) ∙ o in
         up (let e = c.opened_up in let i = opened_then in let less : n ≤ m.stepped.opened = grind (arith, tests) in omega arith)
 
-    -- An auction that the call opens.
-    module _ (n : ℕ) (at : Nowhere n m.before) (u : Unborn w p q n past m.before) (d : OpenedHere w m) (o : opens n x ≡ true) where
+    position_then_is : m.stepped.position ≡ market_at w p q before
+    position_then_is = stepped_position m.before m.stepped clock ∙ h.position_is
+
+    source_then_is : m.stepped.source ≡ source_at w p q before
+    source_then_is = stepped_source m.before m.stepped clock ∙ h.source_is
+
+    -- An opening: the market permits the order its range where the history leads, and that is the range of the story.
+    module _ (d : OpenedHere w m) where
       abbrev order : PairedOrder
       order = d.request.order
-
-      abbrev new : OpenValues
-      new = new_auction w m.stepped order d.range
 
       abbrev facts : OpeningFacts
       facts = record { order = order; range = d.range; time = time_then (x ∷ before); interval = w.source.draws (source_at w p q before) }
 
-      position_then_is : m.stepped.position ≡ market_at w p q before
-      position_then_is = stepped_position m.before m.stepped clock ∙ h.position_is
+      permitted_is : permitted_range order.side order.limit (w.market.shows (market_at w p q before)) ≡ Ok d.range
+      permitted_is = ap (λ e. permitted_range order.side order.limit (w.market.shows e)) (sym position_then_is) ∙ d.permitted_then
 
-      source_then_is : m.stepped.source ≡ source_at w p q before
-      source_then_is = stepped_source m.before m.stepped clock ∙ h.source_is
-
-      story_is : story_of w p q n (x ∷ before) ≡ Some (new_story facts)
-      story_is =
+      story_is : (n : ℕ) → opens n x ≡ true → story_of w p q n (x ∷ before) ≡ Some (new_story facts)
+      story_is n o =
           ap (λ (b : Bool). cond b (story_opened w p q (order_in m.call) before (time_then (x ∷ before))) (option_map (story_after w p q before x) (story_of w p q n before))) o
           ∙ ap (λ (c : Call T). story_opened w p q (order_in c) before (time_then (x ∷ before))) d.call_is
-          ∙ story_in_range order (w.market.shows (market_at w p q before)) d.range (time_then (x ∷ before)) (w.source.draws (source_at w p q before))
-          (ap (λ e. permitted_range order.side order.limit (w.market.shows e)) (sym position_then_is) ∙ d.permitted_then)
+          ∙ story_in_range order (w.market.shows (market_at w p q before)) d.range (time_then (x ∷ before)) (w.source.draws (source_at w p q before)) permitted_is
+
+    range_permitted : OpenedHere w m ⊎ (opened_number m.answer ≡ None) → MarketPermitsTheRange w number p q past m
+    range_permitted (inl d) n e = (new_story (facts d), story_is d n (ap (is_same n) e ∙ eq-eqb n n refl), ap (λ (c : Call T). order_in c) d.call_is, permitted_is d)
+    range_permitted (inr none) n e = none_some n (sym none ∙ e)
+
+    pub market_permits : MarketPermitsTheRange w number p q past m
+    market_permits = range_permitted (opened_or_not w m business)
+
+    -- An auction that the call opens.
+    module _ (n : ℕ) (at : Nowhere n m.before) (u : Unborn w p q n past m.before) (d : OpenedHere w m) (o : opens n x ≡ true) where
+      abbrev new : OpenValues
+      new = new_auction w m.stepped (order d) d.range
 
       none_collected : collects n x ≡ false
       none_collected = not_collected w n m business (none_stepped n at)
@@ -175,8 +186,8 @@ module _ {P T F Q : Type 0} (w : World P T F Q) (drawn : WithinLimits w.source) 
 
       new_alive : Alive w p q n (m ∷ past) new
       new_alive = record {
-        story = new_story facts;
-        is_its_story = story_is;
+        story = new_story (facts d);
+        is_its_story = story_is d n o;
         goes_on = refl;
         matches = record {
           order_is = refl;
@@ -186,7 +197,7 @@ module _ {P T F Q : Type 0} (w : World P T F Q) (drawn : WithinLimits w.source) 
           deadline_is = ap (λ e. m.stepped.time + w.source.draws e) source_then_is ∙ ap (λ t. t + w.source.draws (source_at w p q before)) time_stepped;
           arrivals_is = refl;
           used_is = λ member low high. none_used_yet member high;
-          sound = new_sound order d.range d.sized (permitted_ordered order.side order.limit (w.market.shows m.stepped.position) d.range d.permitted_then) d.guaranteed;
+          sound = new_sound (order d) d.range d.sized (permitted_ordered (order d).side (order d).limit (w.market.shows m.stepped.position) d.range d.permitted_then) d.guaranteed;
         };
         apart = record { arrived = refl; arrivals = refl; owns = refl };
         a_count_each = refl;

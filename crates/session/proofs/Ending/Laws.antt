@@ -21,7 +21,7 @@ use Rattle.session.specs.Moments.{is_open, ends_at, times_ended, exchange_of, hi
 use Rattle.session.specs.Runs.{Answer, Opened, Stored, Accepted, Collected, Moment, answer_of_result, state_and_answer, after_clock_step, given_time, input_refusal, moment, step, run_from}
 use Rattle.session.proofs.Ending.Counted.{Counted, same, more, fewer}
 use Rattle.session.proofs.Ending.Elsewhere.{stepped_elsewhere}
-use Rattle.session.proofs.Ending.Held.{Holds, holds_new, holds_after, clock_of, time_stepped, tally, earlier, fate_of, not_ending}
+use Rattle.session.proofs.Ending.Held.{Holds, holds_new, holds_after, clock_of, time_stepped, tally, earlier, market_permits, fate_of, not_ending}
 use Rattle.session.proofs.Ending.Fates.{Fate, expired_ends}
 use Rattle.session.proofs.Ending.Lives.{Stepped, kept, expired, unstepped, stepped_time, stepped_opened, open_here, Over, over_cause, Life, unborn, alive, waiting, gone, IsOpen, IsShut, IsWaiting, open_or_shut, waits_or_not, ended_kept}
 use Rattle.session.proofs.Ending.Shapes.{OpenedHere, CollectedHere, opened_or_not, collected_or_not, did}
@@ -205,6 +205,7 @@ module _ {P T F Q : Type 0} (w : World P T F Q) (drawn : WithinLimits w.source) 
           at_most_two = next.at_most_two;
           counted_from_one = λ n. numbered_by past s c h n (tally w drawn number p q past (moment w s c) h (clock past s c h) (stepped_time c s) (did w s c));
           opens_in_a_range = λ n e. let here = opened_open (moment w s c) n (opened_or_not w (moment w s c) (did w s c)) e in (here, in_range n (step w s c).0 (moment w s c ∷ past) here (open_or_shut w p q n (moment w s c ∷ past) (step w s c).0 (next.lives n)));
+          market_permits_the_range = market_permits w drawn number p q past (moment w s c) h (clock past s c h) (stepped_time c s) (did w s c);
           collected_when_due = when_due;
         }
 

@@ -1,6 +1,6 @@
 -- The calls are carried out from the session as it was handed in, with no answer yet; and the terms of the laws are those of the
 -- three interfaces.
-use Rattle.std.proofs.Common.{List, ◌++◌, map, vec_items, Option, ap, ◌∙◌}
+use Rattle.std.proofs.Common.{List, ◌++◌, map, vec_items, Option, ap, ◌∙◌, arith}
 use Rattle.room.specs.declared.Room.{Room}
 use Rattle.room.specs.Rooms.{state_of, world_of}
 use Rattle.room.specs.World.{World}
@@ -53,4 +53,6 @@ returns g c =
       calls_back = tt;
       room_back = tt;
       claims_back = tt;
+      lists_back = tt;
+      no_more_lists = let kept = c.len-kept.ensures in let left = c.truncate.ensures in omega arith;
     }
