@@ -1,5 +1,6 @@
 -- How an auction's contracts are shared: the code writes the fill list, which keeps its laws (FillProved), and only its shares
--- keep them (LawsDecide); and an auction stays one as responses come, change and go (AuctionKept, OwnsKept).
+-- keep them (LawsDecide); and an auction stays one as responses come, change and go (AuctionKept, OwnsKept,
+-- StandTogether).
 mod LevelShape
 mod LevelFacts
 mod ShareFacts
@@ -29,5 +30,6 @@ mod Indexes
 pub mod OwnResponses
 pub mod AuctionKept
 pub mod OwnsKept
+mod StandTogether
 mod FewResponses
 pub mod ByOwnNumber
