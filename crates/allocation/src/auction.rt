@@ -133,10 +133,13 @@ impl Auction {
     fn is_arrival_free(&self, arrival: u32) -> bool
         ensures { result ≡ arrival_free arrival (standing self.now.table) }
     {
-        self.table
-            .standing()
-            .iter()
-            .all(|response| response.arrival != arrival)
+        // A `for` and not `all`, with which 64 stores with their tests took a quarter more time.
+        for response in self.table.standing() {
+            if response.arrival == arrival {
+                return false;
+            }
+        }
+        true
     }
 
     /// Whether this response may be stored: it may stand, its arrival number and its member's own number are

@@ -84,7 +84,8 @@ impl Auction {
         ensures laws { LawfulFills (R.Ranking.ahead ranking.now) (auction_values self.now) (take result rows.new) }
     {
         let stood = self.table.standing();
-        let mut responses = [Response::BLANK; 64];
+        // Not `BLANK`, with which sharing out among two responses took almost twice as long.
+        let mut responses = [Response::ZERO; 64];
         let standing = &mut responses[..stood.len()];
         standing.copy_from_slice(stood);
         arrange(ranking, standing);

@@ -87,6 +87,13 @@ impl Response {
         arrival: 0,
     };
 
+    // The same with every byte 0, so that a list of them is written at once.
+    pub(crate) const ZERO: Response = Response {
+        kind: Kind::Sealed,
+        class: Class::Customer,
+        ..Response::BLANK
+    };
+
     // Which response of which member this is.
     pub(crate) fn id(&self) -> ResponseId
         ensures member { result.member ≡ self.now.member }
